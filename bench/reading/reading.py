@@ -1,0 +1,71 @@
+"""Makes texts of several sizes and shapes, runs the built planner on each, and prints time and memory."""
+import os
+import subprocess
+import sys
+import tempfile
+import time
+
+PROGRAM = "crates/patty/out/patty"
+MEGABYTE = 1_000_000
+SMALL_DOMAIN = "(define (domain d) (:predicates (g)))"
+SMALL_PROBLEM = "(define (problem p) (:domain d) (:init) (:goal (g)))"
+
+
+def write_repeated(path, head, piece, tail, size):
+    """Writes a text of about `size` bytes: numbered pieces between a head and a tail."""
+    with open(path, "w") as file:
+        length, number = file.write(head) + len(tail), 0
+        while length < size:
+            length += file.write(piece.format(number))
+            number += 1
+        file.write(tail)
+    return length
+
+
+def many_atoms(domain, problem, size):
+    head, tail = "(define (problem p) (:domain d) (:init", ") (:goal (g)))"
+    write_repeated(domain, SMALL_DOMAIN, "", "", 0)
+    return write_repeated(problem, head, " (visited-place-{0})", tail, size)
+
+
+def many_actions(domain, problem, size):
+    piece = "\n (:action move-{0} :precondition (at-{0}) :effect (seen-{0}))"
+    write_repeated(problem, SMALL_PROBLEM, "", "", 0)
+    return write_repeated(domain, "(define (domain d) (:predicates (g))", piece, ")", size)
+
+
+def wide(domain, problem, size):
+    write_repeated(problem, SMALL_PROBLEM, "", "", 0)
+    return write_repeated(domain, "(define (domain d) (:predicates", "(w{0})", "))", size)
+
+
+def deep(domain, problem, size):
+    # As deep as a text may be. Such a text isn't thin, so the status is 3, after all of it was read.
+    nest = "(" * 198 + "w{0}" + ")" * 198
+    write_repeated(problem, SMALL_PROBLEM, "", "", 0)
+    return write_repeated(domain, "(define (domain d) (:predicates", nest, "))", size)
+
+
+def measured(shape, size):
+    with tempfile.TemporaryDirectory() as folder:
+        domain, problem = os.path.join(folder, "d"), os.path.join(folder, "p")
+        length = shape(domain, problem, size)
+        start = time.monotonic()
+        child = subprocess.Popen([PROGRAM, domain, problem, "--max-n", "0"], stdout=subprocess.DEVNULL)
+        _, status, usage = os.wait4(child.pid, 0)
+        seconds = time.monotonic() - start
+        return length, seconds, usage.ru_maxrss / 1000, os.waitstatus_to_exitcode(status)
+
+
+def main():
+    sizes = [int(word) for word in sys.argv[1:]] or [1, 4, 16, 64]
+    print(f"{'shape':<14}{'MB':>5}{'seconds':>10}{'MB/s':>8}{'peak MB':>10}{'status':>8}")
+    for shape in (many_atoms, many_actions, wide, deep):
+        for size in sizes:
+            # The longest file that is taken has 67,108,864 bytes.
+            length, seconds, peak, status = measured(shape, min(size * 1_048_576, 67_108_000))
+            rate = length / MEGABYTE / seconds
+            print(f"{shape.__name__:<14}{size:>5}{seconds:>10.2f}{rate:>8.1f}{peak:>10.0f}{status:>8}")
+
+
+main()

@@ -1,0 +1,1 @@
+(define (domain d) (:predicates (g) (q)) (:action a :precondition (q) :effect (g)))

@@ -1,0 +1,7 @@
+pub mod Words
+pub mod Start
+pub mod Texts
+pub mod Cause
+pub mod Printed
+pub mod Statuses
+pub mod Taken

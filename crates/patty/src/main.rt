@@ -1,0 +1,42 @@
+//! The planner's program: `patty DOMAIN PROBLEM --max-n 0`.
+//!
+//! `main` makes the adapters to the system and hands its words to `plan_run`, which does the work.
+#![tactic(auto)]
+
+mod printing;
+mod program;
+#[cfg(test)]
+mod tests;
+mod texts;
+mod verdict;
+
+use patty_io::{DiskShelf, OutSink};
+use program::plan_run;
+use std::alloc::Global;
+use std::process::ExitCode;
+use std::rt::Env;
+use std::{env, io};
+use verdict::Verdict;
+
+/// The status where memory ran out.
+const MEMORY: u8 = 7;
+
+/// The words behind the program's name.
+fn words_of<R: Env + AllocGlobal>(rt: &R) -> io::Result<Vec<String>> {
+    let mut words = Vec::new(rt.alloc());
+    for word in env::args(rt)?.skip(1) {
+        words.push(word)?;
+    }
+    Ok(words)
+}
+
+fn main(rt: HostRuntime) -> ExitCode {
+    let alloc: Global = rt.alloc();
+    let Ok(words) = words_of(&rt) else {
+        return ExitCode::from(MEMORY);
+    };
+    let mut files = DiskShelf::new(&rt, alloc);
+    let mut out = OutSink::new(&rt);
+    let status = plan_run(alloc, &words, &mut files, &mut out);
+    ExitCode::from(status.code)
+}

@@ -1,0 +1,249 @@
+//! Whole runs over files and output in memory.
+use crate::program::plan_run;
+use patty_io::{MemShelf, MemSink, NamedBytes};
+use std::alloc::{AllocError, Global};
+use std::test::Fail;
+
+const RIGHT: [&str; 4] = ["d", "p", "--max-n", "0"];
+
+const OTHER_OPTION: [&str; 4] = ["d", "p", "--max-m", "0"];
+
+const OTHER_NUMBER: [&str; 4] = ["d", "p", "--max-n", "1"];
+
+const DOMAIN: &str = "(define (domain d) (:predicates (g)) (:action a :effect (g)))";
+
+const TRUE: &str = "(define (problem p) (:domain d) (:init (g)) (:goal (g)))";
+
+const NEEDY: &str =
+    "(define (domain d) (:predicates (g) (q)) (:action a :precondition (q) :effect (g)))";
+
+const FALSE: &str = "(define (problem p) (:domain d) (:init) (:goal (g)))";
+
+const PLAN: &str = "block 0\nplan 0\nend\n";
+
+const REFUTED: &str = "block 0\nrefuted\nend\n";
+
+const USAGE: &str = "usage: patty DOMAIN PROBLEM [--max-n N] [--steps B] [--pivots P] [--flat]\n";
+
+const DOMAIN_FAULT: &str = "fault domain 23 0\n";
+
+const PROBLEM_FAULT: &str = "fault problem 23 0\n";
+
+/// A run: its words, the two texts, the calls of the shelf and the sink that fail, and what is to come.
+#[derive(Clone, Copy)]
+struct Row {
+    words: [&'static str; 4],
+    domain: &'static str,
+    problem: &'static str,
+    shelf_fails: u64,
+    sink_fails: u64,
+    status: u8,
+    output: &'static str,
+}
+
+fn run_of(domain: &'static str, problem: &'static str, status: u8, output: &'static str) -> Row {
+    Row {
+        words: RIGHT,
+        domain,
+        problem,
+        shelf_fails: 0,
+        sink_fails: 0,
+        status,
+        output,
+    }
+}
+
+fn file(alloc: Global, name: &str, bytes: &[u8]) -> Result<NamedBytes, AllocError> {
+    Ok(NamedBytes {
+        name: String::from_str(alloc, name)?,
+        bytes: Vec::from_slice(alloc, bytes)?,
+    })
+}
+
+fn words_of(alloc: Global, words: &[&str]) -> Result<Vec<String>, AllocError> {
+    let mut all = Vec::new(alloc);
+    for word in words {
+        all.push(String::from_str(alloc, word)?)?;
+    }
+    Ok(all)
+}
+
+/// The status and the output of a run.
+fn outcome(alloc: Global, row: &Row) -> Result<(u8, Vec<u8>), AllocError> {
+    let words = words_of(alloc, &row.words)?;
+    let mut files = Vec::new(alloc);
+    files.push(file(alloc, "d", row.domain.as_bytes())?)?;
+    files.push(file(alloc, "p", row.problem.as_bytes())?)?;
+    let mut shelf = MemShelf::new(alloc, files, vec![in alloc; row.shelf_fails]?);
+    let mut sink = MemSink::new(alloc, vec![in alloc; row.sink_fails]?);
+    let status = plan_run(alloc, &words, &mut shelf, &mut sink);
+    Ok((status.code, Vec::from_slice(alloc, sink.written())?))
+}
+
+#[test]
+fn rows(rt: HostRuntime) -> Result<(), Fail> {
+    let all = [
+        run_of(DOMAIN, TRUE, 0, PLAN),
+        run_of(NEEDY, FALSE, 1, REFUTED),
+        Row {
+            words: OTHER_OPTION,
+            ..run_of(DOMAIN, TRUE, 4, USAGE)
+        },
+        Row {
+            words: OTHER_NUMBER,
+            ..run_of(DOMAIN, TRUE, 4, USAGE)
+        },
+        run_of(
+            "(define (domain d) (:predicates (g)) (:functions (x)) (:action a :effect (g)))",
+            "(define (problem p) (:domain d) (:init (= (x) 1)) (:goal (g)))",
+            3,
+            DOMAIN_FAULT,
+        ),
+        Row {
+            sink_fails: 2,
+            ..run_of(DOMAIN, TRUE, 6, "block 0\n")
+        },
+        Row {
+            shelf_fails: 1,
+            ..run_of(DOMAIN, TRUE, 5, "fault read domain\n")
+        },
+        Row {
+            shelf_fails: 2,
+            ..run_of(DOMAIN, TRUE, 5, "fault read problem\n")
+        },
+    ];
+    for row in &all {
+        let (status, output) = outcome(rt.alloc(), row)?;
+        assert_eq!(rt; status, row.status, "{}", row.problem);
+        assert_eq!(rt; output.as_slice(), row.output.as_bytes());
+    }
+    Ok(())
+}
+
+/// Thin texts in several spellings give 0 or 1, and texts that are nearly thin are refused, the domain first.
+#[test]
+fn thin_texts(rt: HostRuntime) -> Result<(), Fail> {
+    let all = [
+        run_of(
+            DOMAIN,
+            "(define (problem p) (:domain e) (:init (h) (G)) (:goal (g)))",
+            0,
+            PLAN,
+        ),
+        run_of(" \t(DEFINE\r\n(Domain D)(:Predicates))\n", TRUE, 0, PLAN),
+        run_of(
+            "(define (domain d) (:predicates) (:action and :effect (g)))",
+            FALSE,
+            1,
+            REFUTED,
+        ),
+        run_of(
+            DOMAIN,
+            "(define (problem p) (:domain d) (:init (q)(g0)) (:goal (g)))",
+            1,
+            REFUTED,
+        ),
+        run_of(
+            DOMAIN,
+            "(define (problem p) (:domain d) (:init (and)) (:goal (g)))",
+            3,
+            PROBLEM_FAULT,
+        ),
+        run_of(
+            DOMAIN,
+            "(define (problem p) (:domain d) (:init (g)) (:goal (g))) ; p",
+            3,
+            PROBLEM_FAULT,
+        ),
+        run_of(
+            DOMAIN,
+            "(define (problem p) (:init (g)) (:domain d) (:goal (g)))",
+            3,
+            PROBLEM_FAULT,
+        ),
+        run_of(
+            DOMAIN,
+            "(define (problem p) (:domain d) (:init (g)))",
+            3,
+            PROBLEM_FAULT,
+        ),
+        run_of(
+            DOMAIN,
+            "(define (problem p) (:domain d) (:init (g)) (:goal (g))",
+            3,
+            PROBLEM_FAULT,
+        ),
+        run_of(DOMAIN, "", 3, PROBLEM_FAULT),
+        run_of("(define (domain d))", "", 3, DOMAIN_FAULT),
+        run_of(
+            "(define (domain d) (:predicates (not)))",
+            TRUE,
+            3,
+            DOMAIN_FAULT,
+        ),
+        run_of(
+            "(define (domain 1d) (:predicates (g)))",
+            TRUE,
+            3,
+            DOMAIN_FAULT,
+        ),
+        run_of(
+            "(define (domain d) (:predicates (g)) (:action a))",
+            TRUE,
+            3,
+            DOMAIN_FAULT,
+        ),
+        run_of(
+            "(define (domain d) (:predicates (g)) (:action a :effect (g) :precondition (g)))",
+            TRUE,
+            3,
+            DOMAIN_FAULT,
+        ),
+        run_of(
+            "(define (domain d) (:predicates (g)))(define)",
+            TRUE,
+            3,
+            DOMAIN_FAULT,
+        ),
+    ];
+    for row in &all {
+        let (status, output) = outcome(rt.alloc(), row)?;
+        assert_eq!(rt; status, row.status, "{} {}", row.domain, row.problem);
+        assert_eq!(rt; output.as_slice(), row.output.as_bytes());
+    }
+    Ok(())
+}
+
+/// A file of one byte too many is refused before its text is looked at.
+#[test]
+fn long_file(rt: HostRuntime) -> Result<(), Fail> {
+    let alloc = rt.alloc();
+    let words = words_of(alloc, &RIGHT)?;
+    let mut files = Vec::new(alloc);
+    let spaces = vec![in alloc; b' '; 67_108_865]?;
+    files.push(NamedBytes {
+        name: String::from_str(alloc, "d")?,
+        bytes: spaces,
+    })?;
+    files.push(file(alloc, "p", TRUE.as_bytes())?)?;
+    let mut shelf = MemShelf::new(alloc, files, Vec::new(alloc));
+    let mut sink = MemSink::new(alloc, Vec::new(alloc));
+    let status = plan_run(alloc, &words, &mut shelf, &mut sink);
+    assert_eq!(rt; status.code, 3);
+    assert_eq!(rt; sink.written(), b"fault domain long\n".as_slice());
+    Ok(())
+}
+
+/// Where an allocation fails, a run either does as without, or ends with the status 7 and a front of its lines.
+#[test]
+fn want_of_memory(rt: HostRuntime) {
+    let Ok((status, output)) = outcome(rt.alloc(), &run_of(DOMAIN, TRUE, 0, PLAN)) else {
+        return;
+    };
+    if status == 7 {
+        assert!(rt; PLAN.as_bytes().starts_with(output.as_slice()));
+    } else {
+        assert_eq!(rt; status, 0);
+        assert_eq!(rt; output.as_slice(), PLAN.as_bytes());
+    }
+}

@@ -1,0 +1,21 @@
+//! What a run comes to, before it is printed.
+use sexpr::Source;
+
+/// What a run comes to.
+#[derive(Clone, Copy, Debug, PartialEq, Eq)]
+pub enum Verdict {
+    /// The words aren't right.
+    Usage,
+    /// A file can't be read.
+    ReadFault(Source),
+    /// A file is too long.
+    Long(Source),
+    /// A text is refused.
+    Fault(Source),
+    /// The plan of no steps is valid.
+    Plan,
+    /// No plan of no steps is valid.
+    Refuted,
+    /// Memory ran out.
+    Memory,
+}

@@ -1,0 +1,4 @@
+(define (problem still-dark)
+  (:domain lamp)
+  (:init (dark))
+  (:goal (lit)))

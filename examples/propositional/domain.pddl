@@ -1,0 +1,3 @@
+(define (domain lamp)
+  (:predicates (dark) (lit))
+  (:action switch-on :precondition (dark) :effect (lit)))

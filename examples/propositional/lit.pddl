@@ -1,0 +1,4 @@
+(define (problem already-lit)
+  (:domain lamp)
+  (:init (lit))
+  (:goal (lit)))
