@@ -7,7 +7,7 @@ use Rattle.patty_io.specs.Shelf.{limit, TellsMore}
 use Rattle.patty.specs.declared.verdict.Verdict.{Verdict}
 use Rattle.patty.specs.declared.verdict.Verdict.TheVariants as verdict
 use Rattle.patty.specs.Taken.{IsNotTaken}
-use Rattle.patty.specs.Cause.{IsHeld, IsTooLong, IsLong, Decides, Named, name_of}
+use Rattle.patty.specs.Cause.{IsHeld, IsTooLong, IsLong, Decides, Named, FailsAt}
 use Rattle.patty_io.specs.Faults.{Rose}
 
 -- more than a number of them were taken
@@ -33,7 +33,7 @@ module _ (content : List ℕ → Option (List ℕ)) (before now : List ℕ → �
   -- the domain's file isn't taken
   pub domain_refused : (v : Verdict) → IsNotTaken (content ns.0) (before ns.0) (now ns.0) source.Domain v → Named content before now ns v
   domain_refused verdict.Usage is = is
-  domain_refused (verdict.ReadFault f) is = subst (λ (s : Source). Rose (before (name_of ns s)) (now (name_of ns s))) (sym is.0) is.1
+  domain_refused (verdict.ReadFault f) is = subst (λ (s : Source). FailsAt content before now ns s) (sym is.0) is.1
   domain_refused (verdict.Long f) is = subst (λ (s : Source). IsLong content ns s) (sym is.0) is.1
   domain_refused (verdict.Fault f) is = absurd is
   domain_refused verdict.Plan is = absurd is
@@ -45,7 +45,7 @@ module _ (content : List ℕ → Option (List ℕ)) (before now : List ℕ → �
   problem_refused domain between verdict.Usage d later is = is
   problem_refused domain between (verdict.ReadFault f) d later is =
       let rose : Rose (before ns.1) (now ns.1) = omega (arith, later, is.1) in
-      subst (λ (s : Source). Rose (before (name_of ns s)) (now (name_of ns s))) (sym is.0) rose
+      subst (λ (s : Source). FailsAt content before now ns s) (sym is.0) ((domain, d), rose)
   problem_refused domain between (verdict.Long f) d later is = subst (λ (s : Source). IsLong content ns s) (sym is.0) ((domain, d), is.1)
   problem_refused domain between (verdict.Fault f) d later is = absurd is
   problem_refused domain between verdict.Plan d later is = absurd is

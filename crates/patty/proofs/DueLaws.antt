@@ -6,6 +6,7 @@ use Rattle.sexpr.specs.declared.fault.Source.TheVariants as source
 use Rattle.sexpr.proofs.ReadLaws.{one_tree}
 use Rattle.pddl_problem.specs.declared.ast.ProblemAst.{ProblemAst}
 use Rattle.pddl_problem.specs.Problem.{problem_of}
+use Rattle.patty_io.specs.Faults.{Rose}
 use Rattle.patty_io.specs.Shelf.{Tells}
 use Rattle.patty.specs.declared.verdict.Verdict.{Verdict}
 use Rattle.patty.specs.declared.verdict.Verdict.TheVariants as verdict
@@ -13,7 +14,7 @@ use Rattle.patty.specs.Start.{holds_at_start}
 use Rattle.patty.specs.Texts.{IsProblem}
 use Rattle.patty.specs.Cause.{Says, Decides, Reads, IsHeld, IsTooLong, Named, Causes}
 use Rattle.patty.specs.Printed.{lines_of, status_of}
-use Rattle.patty.specs.Statuses.{Runs, IsTold, IsToldLong, TextsCall, FilesCall, IsDue, ReadsWell, Ends}
+use Rattle.patty.specs.Statuses.{Runs, IsTold, IsToldLong, TextsCall, FilesCall, IsDue, FilesReadWell, ReadsWell, Ends}
 
 some_is : {A : Type 0} (x y : A) → Some x ≡ Some y → x ≡ y
 some_is x y is = cc
@@ -84,13 +85,13 @@ module _ (content : List ℕ → Option (List ℕ)) (read_before read_now : List
   IsCause w = Named content read_before read_now ns w
 
   abbrev Well : Type 0
-  Well = ReadsWell read_before read_now (Some ns)
+  Well = (Rose (read_before ns.0) (read_now ns.0) → ⊥) × (Rose (read_before ns.1) (read_now ns.1) → ⊥)
 
   -- the domain's file is too long
-  long_domain : (w : Verdict) → IsToldLong (content ns.0) → Well → IsCause w → IsOne (verdict.Long source.Domain) w
+  long_domain : (w : Verdict) → IsToldLong (content ns.0) → (Rose (read_before ns.0) (read_now ns.0) → ⊥) → IsCause w → IsOne (verdict.Long source.Domain) w
   long_domain verdict.Usage called well is = absurd is
-  long_domain (verdict.ReadFault source.Domain) called well is = absurd (well.0 is)
-  long_domain (verdict.ReadFault source.Problem) called well is = absurd (well.1 is)
+  long_domain (verdict.ReadFault source.Domain) called well is = absurd (well is)
+  long_domain (verdict.ReadFault source.Problem) called well is = absurd (not_held (content ns.0) is.0.0 called is.0.1)
   long_domain (verdict.Long source.Domain) called well is = inl refl
   long_domain (verdict.Long source.Problem) called well is = absurd (not_held (content ns.0) is.0.0 called is.0.1)
   long_domain (verdict.Fault f) called well is = absurd (not_held (content ns.0) is.domain called is.is_domain)
@@ -102,7 +103,7 @@ module _ (content : List ℕ → Option (List ℕ)) (read_before read_now : List
   long_problem : (w : Verdict) → ((domain : List ℕ) × IsTold (content ns.0) domain) × IsToldLong (content ns.1) → Well → IsCause w → IsOne (verdict.Long source.Problem) w
   long_problem verdict.Usage called well is = absurd is
   long_problem (verdict.ReadFault source.Domain) called well is = absurd (well.0 is)
-  long_problem (verdict.ReadFault source.Problem) called well is = absurd (well.1 is)
+  long_problem (verdict.ReadFault source.Problem) called well is = absurd (well.1 is.1)
   long_problem (verdict.Long source.Domain) called well is = absurd (not_long (content ns.0) called.0.0 called.0.1 is)
   long_problem (verdict.Long source.Problem) called well is = inl refl
   long_problem (verdict.Fault f) called well is = absurd (not_held (content ns.1) is.problem called.1 is.is_problem)
@@ -120,7 +121,7 @@ module _ (content : List ℕ → Option (List ℕ)) (read_before read_now : List
   texts_one : (v w : Verdict) (called : TextsCall content ns v) → Well → ((u : Verdict) → Decides called.domain called.problem u → IsOne v u) → IsCause w → IsOne v w
   texts_one v verdict.Usage called well one is = absurd is
   texts_one v (verdict.ReadFault source.Domain) called well one is = absurd (well.0 is)
-  texts_one v (verdict.ReadFault source.Problem) called well one is = absurd (well.1 is)
+  texts_one v (verdict.ReadFault source.Problem) called well one is = absurd (well.1 is.1)
   texts_one v (verdict.Long source.Domain) called well one is = absurd (not_long (content ns.0) called.domain called.is_domain is)
   texts_one v (verdict.Long source.Problem) called well one is = absurd (not_long (content ns.1) called.problem called.is_problem is.1)
   texts_one v (verdict.Fault f) called well one is = one (verdict.Fault f) (told_decides v (verdict.Fault f) called is)
@@ -128,7 +129,7 @@ module _ (content : List ℕ → Option (List ℕ)) (read_before read_now : List
   texts_one v verdict.Refuted called well one is = one verdict.Refuted (told_decides v verdict.Refuted called is)
   texts_one v verdict.Memory called well one is = inr refl
 
-  called_one : (v w : Verdict) → FilesCall content ns v → Well → IsCause w → IsOne v w
+  called_one : (v w : Verdict) → FilesCall content ns v → FilesReadWell read_before read_now ns v → IsCause w → IsOne v w
   called_one verdict.Usage w called well is = absurd called
   called_one (verdict.ReadFault f) w called well is = absurd called
   called_one (verdict.Long source.Domain) w called well is = long_domain w called well is
@@ -140,7 +141,7 @@ module _ (content : List ℕ → Option (List ℕ)) (read_before read_now : List
   called_one verdict.Memory w called well is = absurd called
 
 due_one : (content : List ℕ → Option (List ℕ)) (read_before read_now : List ℕ → ℕ) (named : Option (List ℕ × List ℕ)) (v w : Verdict)
-    → IsDue content named v → ReadsWell read_before read_now named → Causes content read_before read_now named w → IsOne v w
+    → IsDue content named v → ReadsWell read_before read_now named v → Causes content read_before read_now named w → IsOne v w
 due_one content read_before read_now None v w called well is = inl (is ∙ sym called)
 due_one content read_before read_now (Some ns) v w called well is = called_one content read_before read_now ns v w called well is
 
@@ -150,7 +151,7 @@ ends v old new before now code w (inr memory) is printed = inr (inr (is ∙ ap s
 
 pub due : (content : List ℕ → Option (List ℕ)) (read_before read_now : List ℕ → ℕ) (named : Option (List ℕ × List ℕ)) (old new : Option (List ℕ)) (before now code : ℕ)
     → Runs content read_before read_now named old new before now code
-    → (v : Verdict) → IsDue content named v → ReadsWell read_before read_now named → Ends v old new before now code
+    → (v : Verdict) → IsDue content named v → ReadsWell read_before read_now named v → Ends v old new before now code
 due content read_before read_now named old new before now code run v called well = elim run.printed [
   | inl whole ↦ ends v old new before now code run.verdict (due_one content read_before read_now named v run.verdict called well run.caused) whole.0 whole.1
   | inr (front, inl failed) ↦ inr (inl failed)

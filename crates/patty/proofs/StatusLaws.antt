@@ -97,17 +97,17 @@ module _ (content : List ℕ → Option (List ℕ)) (read_before read_now : List
   usage code run is = let whole = whole_at code run 4 is (λ e. omega (arith, e)) (λ e. omega (arith, e)) in usage_at named run.verdict whole.caused whole.status whole.printed
 
   -- status 5
-  read_fault_at : (ns : Option (List ℕ × List ℕ)) (v : Verdict) → Causes content read_before read_now ns v → status_of v ≡ 5 → Appends old new (joined (lines_of v)) → FailsToRead read_before read_now ns old new
+  read_fault_at : (ns : Option (List ℕ × List ℕ)) (v : Verdict) → Causes content read_before read_now ns v → status_of v ≡ 5 → Appends old new (joined (lines_of v)) → FailsToRead content read_before read_now ns old new
   read_fault_at None v caused is printed = absurd (omega (arith, ap status_of caused, is))
   read_fault_at (Some ns) verdict.Usage caused is printed = absurd caused
-  read_fault_at (Some ns) (verdict.ReadFault f) caused is printed = record { file = f; ns = ns; right = refl; rose = caused; printed = printed }
+  read_fault_at (Some ns) (verdict.ReadFault f) caused is printed = record { file = f; ns = ns; right = refl; failed = caused; printed = printed }
   read_fault_at (Some ns) (verdict.Long f) caused is printed = absurd (omega (arith, is))
   read_fault_at (Some ns) (verdict.Fault f) caused is printed = absurd (omega (arith, is))
   read_fault_at (Some ns) verdict.Plan caused is printed = absurd (omega (arith, is))
   read_fault_at (Some ns) verdict.Refuted caused is printed = absurd (omega (arith, is))
   read_fault_at (Some ns) verdict.Memory caused is printed = absurd (omega (arith, is))
 
-  pub read_fault : (code : ℕ) → At code → code ≡ 5 → FailsToRead read_before read_now named old new
+  pub read_fault : (code : ℕ) → At code → code ≡ 5 → FailsToRead content read_before read_now named old new
   read_fault code run is = let whole = whole_at code run 5 is (λ e. omega (arith, e)) (λ e. omega (arith, e)) in read_fault_at named run.verdict whole.caused whole.status whole.printed
 
   -- status 6
@@ -128,3 +128,11 @@ module _ (content : List ℕ → Option (List ℕ)) (read_before read_now : List
       | inr (front, stopped) ↦ front
     ];
   }
+
+  -- a failed write shows in the status
+  pub written_well : (code : ℕ) → At code → (code ≡ 6 → ⊥) → (code ≡ 7 → ⊥) → now ≡ before
+  written_well code run six seven = elim run.printed [
+    | inl whole ↦ whole.2
+    | inr (front, inl failed) ↦ absurd (six failed.0)
+    | inr (front, inr memory) ↦ absurd (seven memory)
+  ]

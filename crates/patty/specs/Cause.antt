@@ -40,15 +40,15 @@ abbrev pub IsTooLong : Option (List ℕ) → Type 0
 IsTooLong None = Unit {0}
 IsTooLong (Some bytes) = limit < length bytes
 
--- the name of the domain's or the problem's file
-abbrev pub name_of : List ℕ × List ℕ → Source → List ℕ
-name_of ns source.Domain = ns.0
-name_of ns source.Problem = ns.1
-
 -- the files in front of this one are read, and this one is too long
 abbrev pub IsLong : (List ℕ → Option (List ℕ)) → List ℕ × List ℕ → Source → Type 0
 IsLong content ns source.Domain = IsTooLong (content ns.0)
 IsLong content ns source.Problem = ((domain : List ℕ) × IsHeld (content ns.0) domain) × IsTooLong (content ns.1)
+
+-- the files in front of this one are read, and its count of faults rose
+abbrev pub FailsAt : (List ℕ → Option (List ℕ)) → (List ℕ → ℕ) → (List ℕ → ℕ) → List ℕ × List ℕ → Source → Type 0
+FailsAt content before now ns source.Domain = Rose (before ns.0) (now ns.0)
+FailsAt content before now ns source.Problem = ((domain : List ℕ) × IsHeld (content ns.0) domain) × Rose (before ns.1) (now ns.1)
 
 -- both files are read, and their texts come to this
 pub record Reads (content : List ℕ → Option (List ℕ)) (ns : List ℕ × List ℕ) (v : Verdict) : Type 0 where
@@ -61,7 +61,7 @@ pub record Reads (content : List ℕ → Option (List ℕ)) (ns : List ℕ × Li
 -- the cause of a verdict, where the words name two files; counts of faults are those before and after the run
 abbrev pub Named : (List ℕ → Option (List ℕ)) → (List ℕ → ℕ) → (List ℕ → ℕ) → List ℕ × List ℕ → Verdict → Type 0
 Named content before now ns verdict.Usage = ⊥
-Named content before now ns (verdict.ReadFault file) = Rose (before (name_of ns file)) (now (name_of ns file))
+Named content before now ns (verdict.ReadFault file) = FailsAt content before now ns file
 Named content before now ns (verdict.Long file) = IsLong content ns file
 Named content before now ns (verdict.Fault file) = Reads content ns (verdict.Fault file)
 Named content before now ns verdict.Plan = Reads content ns verdict.Plan

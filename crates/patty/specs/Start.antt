@@ -7,14 +7,14 @@ use Rattle.pddl_problem.specs.declared.ast.InitAst.{InitAst}
 use Rattle.pddl_problem.specs.declared.ast.InitAst.TheVariants.{Put}
 use Rattle.pddl_problem.specs.declared.ast.ProblemAst.{ProblemAst}
 
--- an item gives an atom without arguments
+-- an item gives the atom of this name; the thin form has no arguments
 abbrev pub gives : List ℕ → InitAst → Bool
 gives atom (Put pos name args place) = pos && bytes_eq name.text atom
 
 abbrev pub is_given : List InitAst → List ℕ → Bool
 is_given init atom = list_any (gives atom) init
 
--- a leaf of a condition without arguments holds
+-- a leaf of a condition holds
 abbrev pub holds : List InitAst → CondAst → Bool
 holds init (Lit pos name args) = if pos then is_given init name.text else not (is_given init name.text)
 holds init (Same pos left right) = if pos then bytes_eq left.text right.text else not (bytes_eq left.text right.text)

@@ -8,7 +8,7 @@ use Rattle.patty_io.specs.Faults.{Rose}
 use Rattle.patty_io.specs.Shelf.{limit}
 use Rattle.patty.specs.declared.verdict.Verdict.{Verdict}
 use Rattle.patty.specs.declared.verdict.Verdict.TheVariants as verdict
-use Rattle.patty.specs.Cause.{Decides, Reads, IsLong, name_of, Causes}
+use Rattle.patty.specs.Cause.{Decides, Reads, IsLong, FailsAt, Causes}
 use Rattle.patty.specs.Printed.{lines_of, status_of, AppendsFront, Prints}
 
 -- some verdict has its cause, and is printed
@@ -38,11 +38,11 @@ pub record IsUsage (named : Option (List ℕ × List ℕ)) (old new : Option (Li
   pub printed : Appends old new (joined (lines_of verdict.Usage))
 
 -- a file can't be read, and that line is printed
-pub record FailsToRead (before now : List ℕ → ℕ) (named : Option (List ℕ × List ℕ)) (old new : Option (List ℕ)) : Type 0 where
+pub record FailsToRead (content : List ℕ → Option (List ℕ)) (before now : List ℕ → ℕ) (named : Option (List ℕ × List ℕ)) (old new : Option (List ℕ)) : Type 0 where
   pub file : Source
   pub ns : List ℕ × List ℕ
   pub right : named ≡ Some ns
-  pub rose : Rose (before (name_of ns file)) (now (name_of ns file))
+  pub failed : FailsAt content before now ns file
   pub printed : Appends old new (joined (lines_of (verdict.ReadFault file)))
 
 -- a front of the lines of some verdict that has its cause was written
@@ -86,10 +86,14 @@ abbrev pub IsDue : (List ℕ → Option (List ℕ)) → Option (List ℕ × List
 IsDue content None v = v ≡ verdict.Usage
 IsDue content (Some ns) v = FilesCall content ns v
 
--- taking a named file didn't fail
-abbrev pub ReadsWell : (List ℕ → ℕ) → (List ℕ → ℕ) → Option (List ℕ × List ℕ) → Type 0
-ReadsWell before now None = Unit {0}
-ReadsWell before now (Some ns) = (Rose (before ns.0) (now ns.0) → ⊥) × (Rose (before ns.1) (now ns.1) → ⊥)
+-- no count of faults rose of the files that have to be taken for this
+abbrev pub FilesReadWell : (List ℕ → ℕ) → (List ℕ → ℕ) → List ℕ × List ℕ → Verdict → Type 0
+FilesReadWell before now ns (verdict.Long source.Domain) = Rose (before ns.0) (now ns.0) → ⊥
+FilesReadWell before now ns other = (Rose (before ns.0) (now ns.0) → ⊥) × (Rose (before ns.1) (now ns.1) → ⊥)
+
+abbrev pub ReadsWell : (List ℕ → ℕ) → (List ℕ → ℕ) → Option (List ℕ × List ℕ) → Verdict → Type 0
+ReadsWell before now None v = Unit {0}
+ReadsWell before now (Some ns) v = FilesReadWell before now ns v
 
 -- a verdict is printed with its status, or the sink's count rose, or memory ran out
 abbrev pub Ends : Verdict → Option (List ℕ) → Option (List ℕ) → ℕ → ℕ → ℕ → Type 0

@@ -13,6 +13,7 @@ mod verdict;
 use patty_io::{DiskShelf, OutSink};
 use program::plan_run;
 use std::alloc::Global;
+use std::io::ErrorKind;
 use std::process::ExitCode;
 use std::rt::Env;
 use std::{env, io};
@@ -32,8 +33,11 @@ fn words_of<R: Env + AllocGlobal>(rt: &R) -> io::Result<Vec<String>> {
 
 fn main(rt: HostRuntime) -> ExitCode {
     let alloc: Global = rt.alloc();
-    let Ok(words) = words_of(&rt) else {
-        return ExitCode::from(MEMORY);
+    let words = match words_of(&rt) {
+        Ok(words) => words,
+        Err(error) if error.kind() == ErrorKind::OutOfMemory => return ExitCode::from(MEMORY),
+        // Words that aren't text aren't the right ones.
+        Err(_) => Vec::new(alloc),
     };
     let mut files = DiskShelf::new(&rt, alloc);
     let mut out = OutSink::new(&rt);

@@ -1,7 +1,7 @@
 //! The planner's top call: first a verdict on the words, the files and the texts, then its lines.
 //!
 //! `plan_run` carries a clause for each status, and one that says which status is due.
-ghost use Rattle.std.specs.Prelude.{◌≡◌, ◌≤◌, ℕ, List};
+ghost use Rattle.std.specs.Prelude.{◌≡◌, ◌≢◌, ◌≤◌, ℕ, List};
 ghost use Rattle.patty_io.specs.Faults.{Rose};
 ghost use Rattle.patty.specs.declared.verdict.Verdict.{Verdict as Called};
 ghost use Rattle.patty.specs.declared.verdict.Verdict.TheVariants as verdict;
@@ -70,8 +70,8 @@ fn run<F: Shelf, O: Sink>(alloc: Global, words: &[String], files: &mut F, out: &
 
 /// Runs the planner on the words behind its name: two file names, `--max-n` and `0`.
 ///
-/// The statuses: 0 a plan is printed, 1 there is none, 3 a text is refused, 4 the words are refused, 5 a file
-/// can't be read, 6 a line can't be written, 7 memory ran out.
+/// The statuses: 0 the plan of no steps is valid, 1 it isn't, 3 a text is refused, 4 the words are refused, 5 a
+/// file can't be read, 6 a line can't be written, 7 memory ran out.
 pub fn plan_run<F: Shelf, O: Sink>(
     alloc: Global,
     words: &[String],
@@ -82,15 +82,21 @@ pub fn plan_run<F: Shelf, O: Sink>(
     ensures refuted { result.code ≡ 1 → Comes (F.content files.old) (names words.now) (O.written out.old) (O.written out.new) verdict.Refuted }
     ensures refused { result.code ≡ 3 → IsRefused (F.content files.old) (names words.now) (O.written out.old) (O.written out.new) }
     ensures usage { result.code ≡ 4 → IsUsage (names words.now) (O.written out.old) (O.written out.new) }
-    ensures read_fault { result.code ≡ 5 → FailsToRead (F.faults files.old) (F.faults files.new) (names words.now) (O.written out.old) (O.written out.new) }
+    ensures read_fault { result.code ≡ 5 → FailsToRead (F.content files.old) (F.faults files.old) (F.faults files.new) (names words.now) (O.written out.old) (O.written out.new) }
     ensures write_fault { result.code ≡ 6 → Rose (O.faults out.old) (O.faults out.new) }
+
+    // Some verdict has its cause, and its lines are printed with its status, or a front of them.
+    ensures runs { Runs (F.content files.old) (F.faults files.old) (F.faults files.new) (names words.now) (O.written out.old) (O.written out.new) (O.faults out.old) (O.faults out.new) result.code }
+
+    // A failed write always shows in the status.
+    ensures written_well { result.code ≢ 6 → result.code ≢ 7 → O.faults out.new ≡ O.faults out.old }
 
     // Whatever the status, also after a failed write and where memory ran out, a front of the lines of some
     // verdict that has its cause was written.
     ensures started { IsStarted (F.content files.old) (F.faults files.old) (F.faults files.new) (names words.now) (O.written out.old) (O.written out.new) }
 
     // What the words and the told files call for comes, unless reading or writing failed or memory ran out.
-    ensures due { (called : Called) → IsDue (F.content files.old) (names words.now) called → ReadsWell (F.faults files.old) (F.faults files.new) (names words.now)
+    ensures due { (called : Called) → IsDue (F.content files.old) (names words.now) called → ReadsWell (F.faults files.old) (F.faults files.new) (names words.now) called
         → Ends called (O.written out.old) (O.written out.new) (O.faults out.old) (O.faults out.new) result.code }
 {
     run(alloc, words, files, out)

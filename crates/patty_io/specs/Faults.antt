@@ -5,6 +5,10 @@ use Rattle.std.specs.Prelude.{ℕ, ◌+◌, ◌-◌, ◌^◌, ◌≤◌, min}
 abbrev pub last_count : ℕ
 last_count = 2 ^ 64 - 1
 
+-- a count that stands at its last value where it would pass it
+abbrev pub capped : ℕ → ℕ
+capped n = min n last_count
+
 -- a count is greater than before, or stands at its last value
 abbrev pub Rose : ℕ → ℕ → Type 0
 Rose before now = min (before + 1) last_count ≤ now

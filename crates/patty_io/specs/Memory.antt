@@ -23,13 +23,18 @@ is_due fails calls = list_any (λ n. n == min (calls + 1) last_count) fails
 abbrev pub sink_is_due : MemSink → Bool
 sink_is_due s = is_due s.fails.items s.calls
 
--- a call answers `Failed` exactly where it is due
-abbrev pub IsRefused : {T : Type 0} → Bool → Result T SinkFail → Type 0
-IsRefused due (Ok done) = due ≡ false
-IsRefused due (Err sink.Failed) = due ≡ true
-IsRefused due (Err sink.Memory) = due ≡ false
+-- a sink whose next call is its first, and whose listed calls fail
+pub record IsNewSink (sink : MemSink) (fails : List ℕ) : Type 0 where
+  pub fails_are : sink.fails.items ≡ fails
+  pub no_call : sink.calls ≡ 0
 
--- the calls of a sink that fail stay the same, and one more was made
+-- a call answers `Failed` exactly where it is due
+abbrev pub FailsExactly : {T : Type 0} → Bool → Result T SinkFail → Type 0
+FailsExactly due (Ok done) = due ≡ false
+FailsExactly due (Err sink.Failed) = due ≡ true
+FailsExactly due (Err sink.Memory) = due ≡ false
+
+-- the listed calls stay, and one more call was made
 pub record SinkWentOn (old new : MemSink) : Type 0 where
   pub fails : new.fails.items ≡ old.fails.items
   pub calls : new.calls ≡ min (old.calls + 1) last_count
@@ -38,14 +43,19 @@ pub record SinkWentOn (old new : MemSink) : Type 0 where
 abbrev pub is_missed : MemShelf → List ℕ → Bool
 is_missed shelf name = is_due shelf.fails.items shelf.calls || is_none (file_of shelf.files.items name)
 
--- a call answers `Failed` exactly where it is missed, unless memory ran out
-abbrev pub IsAnswered : {T : Type 0} → Bool → Result T ShelfFail → Type 0
-IsAnswered missed (Ok done) = missed ≡ false
-IsAnswered missed (Err Failed) = missed ≡ true
-IsAnswered missed (Err Long) = missed ≡ false
-IsAnswered missed (Err Memory) = Unit {0}
+-- a shelf whose next call is its first, and whose listed calls fail
+pub record IsNewShelf (shelf : MemShelf) (fails : List ℕ) : Type 0 where
+  pub fails_are : shelf.fails.items ≡ fails
+  pub no_call : shelf.calls ≡ 0
 
--- the calls of a shelf that fail stay the same, and one more was made
+-- a call answers `Failed` exactly where it is missed, unless memory ran out
+abbrev pub FailsExactlyOrMemory : {T : Type 0} → Bool → Result T ShelfFail → Type 0
+FailsExactlyOrMemory missed (Ok done) = missed ≡ false
+FailsExactlyOrMemory missed (Err Failed) = missed ≡ true
+FailsExactlyOrMemory missed (Err Long) = missed ≡ false
+FailsExactlyOrMemory missed (Err Memory) = Unit {0}
+
+-- the listed calls stay, and one more call was made
 pub record ShelfWentOn (old new : MemShelf) : Type 0 where
   pub fails : new.fails.items ≡ old.fails.items
   pub calls : new.calls ≡ min (old.calls + 1) last_count

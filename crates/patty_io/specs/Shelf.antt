@@ -1,5 +1,5 @@
 -- What taking a file gives (this project).
-use Rattle.std.specs.Prelude.{◌≡◌, ℕ, ◌+◌, ◌≤◌, List, length, take, ⊤, Some, None, Ok, Err, Option, Result, IsErrOf}
+use Rattle.std.specs.Prelude.{◌≡◌, ℕ, ◌+◌, ◌≤◌, List, length, take, ⊤, Some, None, Ok, Err, Option, Result}
 use Rattle.patty_io.specs.declared.shelf.ShelfFail.{ShelfFail}
 use Rattle.patty_io.specs.declared.shelf.ShelfFail.TheVariants.{Failed, Long, Memory}
 use Rattle.patty_io.specs.Faults.{Rose}
@@ -29,7 +29,9 @@ abbrev pub Takes : {T : Type 0} → Option (List ℕ) → Result T ShelfFail →
 Takes told (Ok done) into = (length into ≤ limit) × Tells told into
 Takes told (Err fail) into = Fails fail told into
 
--- a count never falls, and rose where the call failed
-pub record HasCause {T : Type 0} (before now : ℕ) (result : Result T ShelfFail) : Type 0 where
-  pub later : before ≤ now
-  pub failed : IsErrOf result Failed → Rose before now
+-- the count of the name's faults rose where the call failed, and else stays
+abbrev pub HasCause : {T : Type 0} → ℕ → ℕ → Result T ShelfFail → Type 0
+HasCause before now (Ok done) = now ≡ before
+HasCause before now (Err Failed) = (before ≤ now) × Rose before now
+HasCause before now (Err Long) = now ≡ before
+HasCause before now (Err Memory) = now ≡ before

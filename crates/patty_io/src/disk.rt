@@ -1,7 +1,7 @@
 //! The files of the system, as a shelf.
 ghost use Rattle.std.specs.Prelude.{◌≡◌, ℕ, List, [], None, ◌<◌, ◌≤◌, ◌+◌, length, IsErrOf};
 ghost use Rattle.patty_io.specs.Shelf.{Takes};
-ghost use Rattle.patty_io.specs.Failures.{count_of};
+ghost use Rattle.patty_io.specs.Failures.{failures_of};
 
 use crate::failures::Failures;
 use crate::{LIMIT, Shelf, ShelfFail};
@@ -33,10 +33,10 @@ impl<'a, R: Files> DiskShelf<'a, R> {
     }
 }
 
-/// All that a reader has, or one byte more than may be taken.
+/// Takes all that a reader has, or one byte more than may be taken.
 fn fill<S: Read>(source: &mut S, into: &mut Vec<u8>) -> Result<(), ShelfFail>
     requires { into.old.items ≡ [] }
-    ensures { Takes None result into.new.items }
+    ensures { Takes (S.remaining source.old) result into.new.items }
 {
     let mut piece = [0u8; PIECE];
     while into.len() <= LIMIT {
@@ -67,17 +67,17 @@ fn fill_from<R: Files>(rt: &R, name: &str, into: &mut Vec<u8>) -> Result<(), She
 impl<'a, R: Files> Shelf for DiskShelf<'a, R> {
     ghost content = { λ _ _. None };
 
-    ghost faults = { λ s name. count_of s.failures.names.items name };
+    ghost faults = { λ s name. failures_of s.failures name };
 
     fn take(&mut self, name: &str, into: &mut Vec<u8>) -> Result<(), ShelfFail> {
         let Ok(noted) = self.failures.prepare(self.alloc, name) else {
             return Err(ShelfFail::Memory);
         };
         match fill_from(self.rt, name, into) {
-            Err(ShelfFail::Failed) => match self.failures.note(noted) {
-                Ok(()) => Err(ShelfFail::Failed),
-                Err(_) => Err(ShelfFail::Memory),
-            },
+            Err(ShelfFail::Failed) => {
+                self.failures.note(noted);
+                Err(ShelfFail::Failed)
+            }
             other => other,
         }
     }

@@ -1,9 +1,9 @@
 //! The names whose taking failed, from which a shelf counts its faults.
 //!
-//! Room for one more name is made by `prepare` before anything is read, so that `note` after a failure seldom
-//! wants memory.
-ghost use Rattle.std.specs.Prelude.{◌≡◌, ◌≢◌, ◌+◌, ◌≤◌, ℕ, List, [], OnOk, OnErr, IfOk, string_bytes};
-ghost use Rattle.patty_io.specs.Failures.{count_of};
+//! Room for one more name is made by `prepare` before anything is read, so that `note` after a failure needs no
+//! memory.
+ghost use Rattle.std.specs.Prelude.{◌≡◌, ◌≢◌, ◌≤◌, ℕ, List, [], OnOk, IfOk, string_bytes};
+ghost use Rattle.patty_io.specs.Faults.{Rose};
 
 use std::alloc::{AllocError, Global};
 
@@ -13,6 +13,8 @@ pub struct Failures {
 }
 
 impl Failures {
+    ghost use Rattle.patty_io.specs.Failures.{failures_of, HasRoom};
+
     pub fn new(alloc: Global) -> Failures
         ensures { result.names.items ≡ [] }
     {
@@ -24,6 +26,7 @@ impl Failures {
     /// A copy of the name, and room for it.
     pub fn prepare(&mut self, alloc: Global, name: &str) -> Result<String, AllocError>
         ensures copy { IfOk result (λ s. string_bytes s ≡ name.now) }
+        ensures room { OnOk result (HasRoom self.new) }
         ensures same { self.new.names.items ≡ self.old.names.items }
     {
         self.names.reserve(1)?;
@@ -31,13 +34,15 @@ impl Failures {
     }
 
     /// Counts one more failure of the name.
-    pub fn note(&mut self, name: String) -> Result<(), AllocError>
-        ensures counted { OnOk result (count_of self.new.names.items (string_bytes name) ≡ count_of self.old.names.items (string_bytes name) + 1) }
-        ensures others { OnOk result ((other : List ℕ) → other ≢ string_bytes name → count_of self.new.names.items other ≡ count_of self.old.names.items other) }
-        ensures later { (of : List ℕ) → count_of self.old.names.items of ≤ count_of self.new.names.items of }
-        ensures same { OnErr result (self.new.names.items ≡ self.old.names.items) }
+    pub fn note(&mut self, name: String)
+        requires { HasRoom self.old }
+        ensures counted { Rose (failures_of self.old (string_bytes name)) (failures_of self.new (string_bytes name)) }
+        ensures later { (of : List ℕ) → failures_of self.old of ≤ failures_of self.new of }
+        ensures others { (other : List ℕ) → other ≢ string_bytes name → failures_of self.new other ≡ failures_of self.old other }
     {
-        self.names.push(name)?;
-        Ok(())
+        match self.names.push(name) {
+            Ok(()) => {}
+            Err(_) => unreachable!(),
+        }
     }
 }

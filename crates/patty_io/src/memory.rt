@@ -4,8 +4,9 @@
 ghost use Rattle.std.specs.Prelude.{◌≡◌, ◌≢◌, ◌≤◌, [], ℕ, List, Some, IsErrOf, option_copied, find, bytes_eq, string_bytes};
 ghost use Rattle.patty_io.specs.Shelf.{Takes, HasCause as HasReadCause};
 ghost use Rattle.patty_io.specs.Sink.{Puts, HasCause};
-ghost use Rattle.patty_io.specs.Memory.{file_of, is_due, is_missed, sink_is_due, IsRefused, IsAnswered, SinkWentOn, ShelfWentOn};
-ghost use Rattle.patty_io.specs.Failures.{count_of};
+ghost use Rattle.patty_io.specs.Memory.{file_of, is_missed, sink_is_due, IsNewSink, IsNewShelf, FailsExactly, FailsExactlyOrMemory, SinkWentOn, ShelfWentOn};
+ghost use Rattle.patty_io.specs.Faults.{capped};
+ghost use Rattle.patty_io.specs.Failures.{failures_of};
 
 use crate::failures::Failures;
 use crate::{LIMIT, Shelf, ShelfFail, Sink, SinkFail};
@@ -31,7 +32,7 @@ impl MemSink {
     pub fn new(alloc: Global, fails: Vec<u64>) -> MemSink
         ensures written { ⟦<MemSink as Sink>⟧.written result ≡ Some [] }
         ensures faults { ⟦<MemSink as Sink>⟧.faults result ≡ 0 }
-        ensures fails { sink_is_due result ≡ is_due fails.items 0 }
+        ensures fresh { IsNewSink result fails.items }
     {
         MemSink {
             written: Vec::new(alloc),
@@ -52,12 +53,12 @@ impl MemSink {
 impl Sink for MemSink {
     ghost written = { λ s. Some s.written.items };
 
-    ghost faults = { λ s. s.faults };
+    ghost faults = { λ s. capped s.faults };
 
     fn put(&mut self, bytes: &[u8]) -> Result<(), SinkFail>
         ensures bytes { Puts (Some self.old.written.items) (Some self.new.written.items) result bytes.now }
-        ensures cause { HasCause self.old.faults self.new.faults result }
-        ensures failed { IsRefused (sink_is_due self.old) result }
+        ensures cause { HasCause (capped self.old.faults) (capped self.new.faults) result }
+        ensures failed { FailsExactly (sink_is_due self.old) result }
         ensures nothing { IsErrOf result SinkFail.Failed → self.new.written.items ≡ self.old.written.items }
         ensures next { SinkWentOn self.old self.new }
     {
@@ -124,7 +125,7 @@ impl MemShelf {
     pub fn new(alloc: Global, files: Vec<NamedBytes>, fails: Vec<u64>) -> MemShelf
         ensures content { (name : List ℕ) → ⟦<MemShelf as Shelf>⟧.content result name ≡ file_of files.items name }
         ensures faults { (name : List ℕ) → ⟦<MemShelf as Shelf>⟧.faults result name ≡ 0 }
-        ensures fails { is_due result.fails.items result.calls ≡ is_due fails.items 0 }
+        ensures fresh { IsNewShelf result fails.items }
     {
         MemShelf {
             files,
@@ -163,16 +164,16 @@ fn copy(bytes: &[u8], into: &mut Vec<u8>) -> Result<(), ShelfFail>
 impl Shelf for MemShelf {
     ghost content = { λ s name. file_of s.files.items name };
 
-    ghost faults = { λ s name. count_of s.failures.names.items name };
+    ghost faults = { λ s name. failures_of s.failures name };
 
     fn take(&mut self, name: &str, into: &mut Vec<u8>) -> Result<(), ShelfFail>
         requires { into.old.items ≡ [] }
         ensures taken { Takes (file_of self.old.files.items name.now) result into.new.items }
-        ensures cause { HasReadCause (count_of self.old.failures.names.items name.now) (count_of self.new.failures.names.items name.now) result }
-        ensures later { (of : List ℕ) → count_of self.old.failures.names.items of ≤ count_of self.new.failures.names.items of }
-        ensures others { (other : List ℕ) → other ≢ name.now → count_of self.new.failures.names.items other ≡ count_of self.old.failures.names.items other }
+        ensures cause { HasReadCause (failures_of self.old.failures name.now) (failures_of self.new.failures name.now) result }
+        ensures later { (of : List ℕ) → failures_of self.old.failures of ≤ failures_of self.new.failures of }
+        ensures others { (other : List ℕ) → other ≢ name.now → failures_of self.new.failures other ≡ failures_of self.old.failures other }
         ensures content { (of : List ℕ) → file_of self.new.files.items of ≡ file_of self.old.files.items of }
-        ensures failed { IsAnswered (is_missed self.old name.now) result }
+        ensures failed { FailsExactlyOrMemory (is_missed self.old name.now) result }
         ensures next { ShelfWentOn self.old self.new }
     {
         self.calls = self.calls.saturating_add(1);
@@ -181,10 +182,10 @@ impl Shelf for MemShelf {
         };
         match file_named(&self.files, name) {
             Some(file) if !self.fails.contains(&self.calls) => copy(&file.bytes, into),
-            _ => match self.failures.note(noted) {
-                Ok(()) => Err(ShelfFail::Failed),
-                Err(_) => Err(ShelfFail::Memory),
-            },
+            _ => {
+                self.failures.note(noted);
+                Err(ShelfFail::Failed)
+            }
         }
     }
 }

@@ -1,5 +1,7 @@
 //! The standard output, as a sink.
 ghost use Rattle.std.specs.Prelude.{◌≡◌, None};
+ghost use Rattle.patty_io.specs.Faults.{capped};
+ghost use Rattle.patty_io.specs.Sink.{WritesWhole};
 
 use crate::{Sink, SinkFail};
 use std::io;
@@ -22,12 +24,15 @@ impl<'a, R: Print> OutSink<'a, R> {
 }
 
 /// Writes a piece whole. A write that takes nothing of what is left is a failure.
-fn write_whole<W: Write>(out: &mut W, bytes: &[u8]) -> bool {
+fn write_whole<W: Write>(out: &mut W, bytes: &[u8]) -> bool
+    ensures { WritesWhole (W.contents out.old) (W.contents out.new) bytes.now result }
+{
     let mut rest = bytes;
     while !rest.is_empty() {
         match out.write(rest) {
-            Ok(0) | Err(_) => return false,
+            Ok(0) => return false,
             Ok(count) => rest = &rest[count..],
+            Err(_) => return false,
         }
     }
     true
@@ -36,7 +41,7 @@ fn write_whole<W: Write>(out: &mut W, bytes: &[u8]) -> bool {
 impl<'a, R: Print> Sink for OutSink<'a, R> {
     ghost written = { λ _. None };
 
-    ghost faults = { λ s. s.faults };
+    ghost faults = { λ s. capped s.faults };
 
     fn put(&mut self, bytes: &[u8]) -> Result<(), SinkFail> {
         if write_whole(&mut io::writer(self.rt), bytes) {

@@ -25,3 +25,6 @@ returns-clause-started g c = status.started _ _ _ _ _ _ _ _ _ c.run.ensures
 
 pub returns-clause-due : goal.returns-clause-due
 returns-clause-due g c = due _ _ _ _ _ _ _ _ _ c.run.ensures
+
+pub returns-clause-written_well : goal.returns-clause-written_well
+returns-clause-written_well g c = status.written_well _ _ _ _ _ _ _ _ _ c.run.ensures

@@ -1,0 +1,8 @@
+use Rattle.std.proofs.Common.{◌≡◌, length, arith}
+use Rattle.patty_io.proofs.Filling.{tells_more}
+use Rattle.patty_io.proofs.disk.fill.Goals as goal
+
+pub returns : goal.returns
+returns g c =
+    let long : length c.loop-piece.into.items ≡ 67108865 = omega arith in
+    (long, tells_more _ _ _ c.loop-piece.invariant.taken long)
