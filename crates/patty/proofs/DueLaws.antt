@@ -1,61 +1,65 @@
 -- The verdict that is due is the one that is printed.
 use Rattle.std.proofs.Common.{◌≡◌, ◌⊎◌, inl, inr, ℕ, Bool, true, false, List, length, Option, Some, None, refl, sym, ◌∙◌, ap, subst, arith}
 use Rattle.std.specs.Io.KnownBytes.{Appends}
-use Rattle.sexpr.specs.Spelling.{joined}
 use Rattle.sexpr.specs.declared.fault.Source.TheVariants as source
-use Rattle.sexpr.proofs.ReadLaws.{one_tree}
+use Rattle.sexpr.specs.declared.fault.TextFault.{TextFault}
 use Rattle.pddl_problem.specs.declared.ast.ProblemAst.{ProblemAst}
 use Rattle.pddl_problem.specs.Problem.{problem_of}
+use Rattle.pddl_domain.specs.declared.ast.DomainAst.{DomainAst}
+use Rattle.pddl_domain.specs.Domain.{domain_of}
 use Rattle.patty_io.specs.Faults.{Rose}
 use Rattle.patty_io.specs.Shelf.{Tells}
 use Rattle.patty.specs.declared.verdict.Verdict.{Verdict}
 use Rattle.patty.specs.declared.verdict.Verdict.TheVariants as verdict
 use Rattle.patty.specs.Start.{holds_at_start}
-use Rattle.patty.specs.Texts.{IsProblem}
-use Rattle.patty.specs.Cause.{Says, Decides, Reads, IsHeld, IsTooLong, Named, Causes}
-use Rattle.patty.specs.Printed.{lines_of, status_of}
+use Rattle.patty.proofs.TextLaws.{one_syntax, fault_not, one_fault}
+use Rattle.patty.specs.Cause.{IsDomain, IsProblem, IsDomainFault, IsProblemFault, IsFirstOf, Says, Decides, Reads, IsHeld, IsTooLong, Named, Causes}
+use Rattle.patty.specs.Printed.{joined, lines_of, status_of}
 use Rattle.patty.specs.Statuses.{Runs, IsTold, IsToldLong, TextsCall, FilesCall, IsDue, FilesReadWell, ReadsWell, Ends}
 
 some_is : {A : Type 0} (x y : A) → Some x ≡ Some y → x ≡ y
 some_is x y is = cc
 
 -- ---- two texts come to one verdict
-one_problem : (bytes : List ℕ) (p q : ProblemAst) → IsProblem bytes p → IsProblem bytes q → p ≡ q
-one_problem bytes p q is_p is_q = some_is p q (sym is_p.is ∙ ap problem_of (one_tree bytes is_p.tree is_q.tree is_p.spelled is_q.spelled) ∙ is_q.is)
+domain_fault_not : (bytes : List ℕ) (fault : TextFault) (domain : DomainAst) → IsDomainFault bytes fault → IsDomain bytes domain → ⊥
+domain_fault_not bytes fault domain is also = fault_not domain_of bytes source.Domain fault domain is also
+
+problem_fault_not : (bytes : List ℕ) (fault : TextFault) (problem : ProblemAst) → IsProblemFault bytes fault → IsProblem bytes problem → ⊥
+problem_fault_not bytes fault problem is also = fault_not problem_of bytes source.Problem fault problem is also
+
+-- two texts that have a first fault say nothing
+fault_says_not : (domain problem : List ℕ) (fault : TextFault) (holds : Bool) → IsFirstOf domain problem fault → Says domain problem holds → ⊥
+fault_says_not domain problem fault holds (inl is) says = domain_fault_not domain fault says.first is says.is_domain
+fault_says_not domain problem fault holds (inr is) says = problem_fault_not problem fault says.second is.1 says.is_problem
+
+one_first : (domain problem : List ℕ) (f g : TextFault) → IsFirstOf domain problem f → IsFirstOf domain problem g → f ≡ g
+one_first domain problem f g (inl is) (inl also) = one_fault domain_of domain source.Domain f g is also
+one_first domain problem f g (inl is) (inr also) = absurd (domain_fault_not domain f also.0.0 is also.0.1)
+one_first domain problem f g (inr is) (inl also) = absurd (domain_fault_not domain g is.0.0 also is.0.1)
+one_first domain problem f g (inr is) (inr also) = one_fault problem_of problem source.Problem f g is.1 also.1
 
 says_one : (domain problem : List ℕ) (a b : Bool) → Says domain problem a → Says domain problem b → a ≡ b
-says_one domain problem a b says also = sym says.start ∙ ap holds_at_start (one_problem problem says.second also.second says.is_problem also.is_problem) ∙ also.start
+says_one domain problem a b says also =
+    sym says.start ∙ ap holds_at_start (one_syntax problem_of problem says.second also.second says.is_problem also.is_problem) ∙ also.start
 
 -- the verdict is the same, or memory ran out
 abbrev IsOne : Verdict → Verdict → Type 0
 IsOne v w = (w ≡ v) ⊎ (w ≡ verdict.Memory)
 
-no_domain_one : (domain problem : List ℕ) (w : Verdict) → Decides domain problem (verdict.Fault source.Domain) → Decides domain problem w → IsOne (verdict.Fault source.Domain) w
-no_domain_one domain problem verdict.Usage called is = absurd is
-no_domain_one domain problem (verdict.ReadFault f) called is = absurd is
-no_domain_one domain problem (verdict.Long f) called is = absurd is
-no_domain_one domain problem (verdict.Fault source.Domain) called is = inl refl
-no_domain_one domain problem (verdict.Fault source.Problem) called is = absurd (called is.0.0 is.0.1)
-no_domain_one domain problem verdict.Plan called is = absurd (called is.first is.is_domain)
-no_domain_one domain problem verdict.Refuted called is = absurd (called is.first is.is_domain)
-no_domain_one domain problem verdict.Memory called is = inr refl
-
-no_problem_one : (domain problem : List ℕ) (w : Verdict) → Decides domain problem (verdict.Fault source.Problem) → Decides domain problem w → IsOne (verdict.Fault source.Problem) w
-no_problem_one domain problem verdict.Usage called is = absurd is
-no_problem_one domain problem (verdict.ReadFault f) called is = absurd is
-no_problem_one domain problem (verdict.Long f) called is = absurd is
-no_problem_one domain problem (verdict.Fault source.Domain) called is = absurd (is called.0.0 called.0.1)
-no_problem_one domain problem (verdict.Fault source.Problem) called is = inl refl
-no_problem_one domain problem verdict.Plan called is = absurd (called.1 is.second is.is_problem)
-no_problem_one domain problem verdict.Refuted called is = absurd (called.1 is.second is.is_problem)
-no_problem_one domain problem verdict.Memory called is = inr refl
+fault_one : (domain problem : List ℕ) (fault : TextFault) (w : Verdict) → Decides domain problem (verdict.Fault fault) → Decides domain problem w → IsOne (verdict.Fault fault) w
+fault_one domain problem fault verdict.Usage called is = absurd is
+fault_one domain problem fault (verdict.ReadFault f) called is = absurd is
+fault_one domain problem fault (verdict.Long f) called is = absurd is
+fault_one domain problem fault (verdict.Fault g) called is = inl (ap (λ (f : TextFault). verdict.Fault f) (one_first domain problem g fault is called))
+fault_one domain problem fault verdict.Plan called is = absurd (fault_says_not domain problem fault true called is)
+fault_one domain problem fault verdict.Refuted called is = absurd (fault_says_not domain problem fault false called is)
+fault_one domain problem fault verdict.Memory called is = inr refl
 
 plan_one : (domain problem : List ℕ) (w : Verdict) → Decides domain problem verdict.Plan → Decides domain problem w → IsOne verdict.Plan w
 plan_one domain problem verdict.Usage called is = absurd is
 plan_one domain problem (verdict.ReadFault f) called is = absurd is
 plan_one domain problem (verdict.Long f) called is = absurd is
-plan_one domain problem (verdict.Fault source.Domain) called is = absurd (is called.first called.is_domain)
-plan_one domain problem (verdict.Fault source.Problem) called is = absurd (is.1 called.second called.is_problem)
+plan_one domain problem (verdict.Fault g) called is = absurd (fault_says_not domain problem g true is called)
 plan_one domain problem verdict.Plan called is = inl refl
 plan_one domain problem verdict.Refuted called is = absurd (cc (says_one domain problem true false called is))
 plan_one domain problem verdict.Memory called is = inr refl
@@ -64,8 +68,7 @@ refuted_one : (domain problem : List ℕ) (w : Verdict) → Decides domain probl
 refuted_one domain problem verdict.Usage called is = absurd is
 refuted_one domain problem (verdict.ReadFault f) called is = absurd is
 refuted_one domain problem (verdict.Long f) called is = absurd is
-refuted_one domain problem (verdict.Fault source.Domain) called is = absurd (is called.first called.is_domain)
-refuted_one domain problem (verdict.Fault source.Problem) called is = absurd (is.1 called.second called.is_problem)
+refuted_one domain problem (verdict.Fault g) called is = absurd (fault_says_not domain problem g false is called)
 refuted_one domain problem verdict.Plan called is = absurd (cc (says_one domain problem false true called is))
 refuted_one domain problem verdict.Refuted called is = inl refl
 refuted_one domain problem verdict.Memory called is = inr refl
@@ -134,8 +137,7 @@ module _ (content : List ℕ → Option (List ℕ)) (read_before read_now : List
   called_one (verdict.ReadFault f) w called well is = absurd called
   called_one (verdict.Long source.Domain) w called well is = long_domain w called well is
   called_one (verdict.Long source.Problem) w called well is = long_problem w called well is
-  called_one (verdict.Fault source.Domain) w called well is = texts_one _ w called well (λ u. no_domain_one called.domain called.problem u called.decides) is
-  called_one (verdict.Fault source.Problem) w called well is = texts_one _ w called well (λ u. no_problem_one called.domain called.problem u called.decides) is
+  called_one (verdict.Fault fault) w called well is = texts_one _ w called well (λ u. fault_one called.domain called.problem fault u called.decides) is
   called_one verdict.Plan w called well is = texts_one _ w called well (λ u. plan_one called.domain called.problem u called.decides) is
   called_one verdict.Refuted w called well is = texts_one _ w called well (λ u. refuted_one called.domain called.problem u called.decides) is
   called_one verdict.Memory w called well is = absurd called

@@ -1,13 +1,12 @@
 -- Each status has its cause.
-use Rattle.std.proofs.Common.{◌≡◌, ◌⊎◌, inl, inr, ℕ, List, [], Option, Some, None, refl, sym, ◌∙◌, ap, subst, arith}
+use Rattle.std.proofs.Common.{◌≡◌, inl, inr, ℕ, List, [], Option, Some, None, refl, sym, ◌∙◌, ap, subst, arith}
 use Rattle.std.proofs.lemmas.List.{append-nil}
 use Rattle.std.specs.Io.KnownBytes.{Appends}
-use Rattle.sexpr.specs.Spelling.{joined}
 use Rattle.patty_io.specs.Faults.{Rose}
 use Rattle.patty.specs.declared.verdict.Verdict.{Verdict}
 use Rattle.patty.specs.declared.verdict.Verdict.TheVariants as verdict
 use Rattle.patty.specs.Cause.{Causes}
-use Rattle.patty.specs.Printed.{lines_of, status_of, Prints}
+use Rattle.patty.specs.Printed.{joined, lines_of, status_of}
 use Rattle.patty.specs.Statuses.{Runs, Comes, IsRefused, IsUsage, FailsToRead, IsStarted}
 
 module _ (content : List ℕ → Option (List ℕ)) (read_before read_now : List ℕ → ℕ) (named : Option (List ℕ × List ℕ)) (old new : Option (List ℕ)) (before now : ℕ) where
@@ -70,8 +69,8 @@ module _ (content : List ℕ → Option (List ℕ)) (read_before read_now : List
   refused_at None v caused is printed = absurd (omega (arith, ap status_of caused, is))
   refused_at (Some ns) verdict.Usage caused is printed = absurd caused
   refused_at (Some ns) (verdict.ReadFault f) caused is printed = absurd (omega (arith, is))
-  refused_at (Some ns) (verdict.Long f) caused is printed = record { file = f; ns = ns; right = refl; why = inr (caused, printed) }
-  refused_at (Some ns) (verdict.Fault f) caused is printed = record { file = f; ns = ns; right = refl; why = inl (caused, printed) }
+  refused_at (Some ns) (verdict.Long f) caused is printed = record { ns = ns; right = refl; why = inr (f, caused, printed) }
+  refused_at (Some ns) (verdict.Fault f) caused is printed = record { ns = ns; right = refl; why = inl (f, caused, printed) }
   refused_at (Some ns) verdict.Plan caused is printed = absurd (omega (arith, is))
   refused_at (Some ns) verdict.Refuted caused is printed = absurd (omega (arith, is))
   refused_at (Some ns) verdict.Memory caused is printed = absurd (omega (arith, is))

@@ -1,22 +1,58 @@
--- A text is read by the tree that it spells.
-use Rattle.std.proofs.Common.{ℕ, List, Result, Ok, Err, ap}
+-- A text spells one syntax, or has one first fault.
+use Rattle.std.proofs.Common.{◌≡◌, inl, inr, ℕ, List, [], Option, Result, Ok, Err, sym, ◌∙◌, ap}
 use Rattle.sexpr.specs.declared.tree.Tree.{Tree}
+use Rattle.sexpr.specs.declared.fault.Source.{Source}
+use Rattle.sexpr.specs.declared.fault.TextFault.{TextFault}
 use Rattle.sexpr.specs.declared.fault.TextRefusal.{TextRefusal}
 use Rattle.sexpr.specs.declared.fault.TextRefusal.TheVariants as refusal
-use Rattle.sexpr.specs.Spelling.{IsText}
-use Rattle.sexpr.proofs.ReadLaws.{one_tree}
-use Rattle.pddl_domain.specs.declared.ast.DomainAst.{DomainAst}
-use Rattle.pddl_problem.specs.declared.ast.ProblemAst.{ProblemAst}
-use Rattle.pddl_problem.specs.Problem.{problem_of, ReadsProblem as ReadsTree}
-use Rattle.pddl_domain.specs.Domain as domain
-use Rattle.patty.specs.Texts.{ReadsDomain, ReadsProblem}
+use Rattle.sexpr.specs.Read.{IsText, IsFirstFault, Reports, Reads}
+use Rattle.sexpr.proofs.FirstFault.{one_first_fault}
+use Rattle.sexpr.proofs.Unique.{one_tree}
+use Rattle.pddl_domain.specs.Reading.{ReadsTree}
+use Rattle.patty.specs.Texts.{report, IsSpelled, IsFault, ReadsText}
 
-pub domain_reads : (bytes : List ℕ) (tree : Tree) (r : Result DomainAst TextRefusal) → IsText bytes tree → domain.ReadsDomain (domain.domain_of tree) r → ReadsDomain bytes r
-domain_reads bytes tree (Ok d) text reads = record { tree = tree; spelled = text; is = reads }
-domain_reads bytes tree (Err (refusal.Fault f)) text reads = λ d is. absurd (cc (ap domain.domain_of (one_tree bytes is.tree tree is.spelled text), is.is, reads.1))
-domain_reads bytes tree (Err refusal.Memory) text reads = tt
+-- a fault is what it reports
+report_is : (file : Source) (fault : TextFault) (kind place : ℕ) → Reports file fault kind place → fault ≡ report file kind place []
+report_is file fault kind place is =
+    ap (λ (s : Source). report s fault.kind fault.place fault.word) is.of
+    ∙ ap (λ (n : ℕ). report file n fault.place fault.word) is.kind_is
+    ∙ ap (λ (n : ℕ). report file kind n fault.word) is.place_is
+    ∙ ap (λ (w : List ℕ). report file kind place w) is.no_word
 
-pub problem_reads : (bytes : List ℕ) (tree : Tree) (r : Result ProblemAst TextRefusal) → IsText bytes tree → ReadsTree (problem_of tree) r → ReadsProblem bytes r
-problem_reads bytes tree (Ok p) text reads = record { tree = tree; spelled = text; is = reads }
-problem_reads bytes tree (Err (refusal.Fault f)) text reads = λ p is. absurd (cc (ap problem_of (one_tree bytes is.tree tree is.spelled text), is.is, reads.1))
-problem_reads bytes tree (Err refusal.Memory) text reads = tt
+same_tree : (bytes : List ℕ) (s t : Tree) → IsText bytes s → IsText bytes t → s ≡ t
+same_tree bytes s t is also = one_tree bytes s t is.spelled also.spelled
+
+-- a text that spells a tree has no fault of its bytes and parentheses
+no_fault : (bytes : List ℕ) (tree : Tree) (kind place : ℕ) → IsText bytes tree → IsFirstFault bytes kind place → ⊥
+no_fault bytes tree kind place is (inl first) = is.good_bytes kind place first.is
+no_fault bytes tree kind place is (inr first) = is.good_tree kind place first.1.is
+
+module _ {A : Type 0} (form : Tree → Option A) (bytes : List ℕ) where
+  same_form : (s t : Tree) → IsText bytes s → IsText bytes t → form s ≡ form t
+  same_form s t is also = ap form (same_tree bytes s t is also)
+
+  pub one_syntax : (x y : A) → IsSpelled form bytes x → IsSpelled form bytes y → x ≡ y
+  one_syntax x y is also = cc (same_form is.tree also.tree is.text also.text, is.is, also.is)
+
+  pub fault_not : (file : Source) (fault : TextFault) (x : A) → IsFault form file bytes fault → IsSpelled form bytes x → ⊥
+  fault_not file fault x (inl unread) is = no_fault bytes is.tree unread.kind unread.place is.text unread.first
+  fault_not file fault x (inr other) is = cc (same_form is.tree other.tree is.text other.text, is.is, other.other)
+
+  pub one_fault : (file : Source) (f g : TextFault) → IsFault form file bytes f → IsFault form file bytes g → f ≡ g
+  one_fault file f g (inl is) (inl also) =
+      let same = one_first_fault bytes is.kind is.place also.kind also.place is.first also.first in
+      is.is ∙ ap (λ (n : ℕ). report file n is.place []) same.0 ∙ ap (λ (n : ℕ). report file also.kind n []) same.1 ∙ sym also.is
+  one_fault file f g (inl is) (inr also) = absurd (no_fault bytes also.tree is.kind is.place also.text is.first)
+  one_fault file f g (inr is) (inl also) = absurd (no_fault bytes is.tree also.kind also.place is.text also.first)
+  one_fault file f g (inr is) (inr also) = is.is ∙ sym also.is
+
+  -- the tree isn't read
+  pub unread : (file : Source) (e : TextRefusal) → Reads file bytes (Err e) → ReadsText form file bytes (Err e)
+  unread file (refusal.Fault fault) is = inl (record { kind = is.0; place = is.1; first = is.2; is = report_is file fault is.0 is.1 is.3 })
+  unread file refusal.Memory is = tt
+
+  -- the tree is read, and its syntax or not
+  pub read : (file : Source) (tree : Tree) (r : Result A TextRefusal) → IsText bytes tree → ReadsTree file (form tree) r → ReadsText form file bytes r
+  read file tree (Ok syntax) text is = record { tree = tree; text = text; is = is }
+  read file tree (Err (refusal.Fault fault)) text is = inr (record { tree = tree; text = text; other = is.1; is = is.0 })
+  read file tree (Err refusal.Memory) text is = tt

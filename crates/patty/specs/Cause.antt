@@ -1,15 +1,32 @@
 -- Why a run comes to a verdict (this project).
-use Rattle.std.specs.Prelude.{◌≡◌, ℕ, ◌<◌, ◌≤◌, Bool, true, false, List, length, Option, Some, None}
+use Rattle.std.specs.Prelude.{◌≡◌, ◌⊎◌, ℕ, ◌<◌, ◌≤◌, Bool, true, false, List, length, Option, Some, None}
 use Rattle.sexpr.specs.declared.fault.Source.{Source}
 use Rattle.sexpr.specs.declared.fault.Source.TheVariants as source
+use Rattle.sexpr.specs.declared.fault.TextFault.{TextFault}
 use Rattle.patty_io.specs.Faults.{Rose}
 use Rattle.patty_io.specs.Shelf.{limit, Tells}
 use Rattle.pddl_domain.specs.declared.ast.DomainAst.{DomainAst}
+use Rattle.pddl_domain.specs.Domain.{domain_of}
 use Rattle.pddl_problem.specs.declared.ast.ProblemAst.{ProblemAst}
+use Rattle.pddl_problem.specs.Problem.{problem_of}
 use Rattle.patty.specs.declared.verdict.Verdict.{Verdict}
 use Rattle.patty.specs.declared.verdict.Verdict.TheVariants as verdict
 use Rattle.patty.specs.Start.{holds_at_start}
-use Rattle.patty.specs.Texts.{IsDomain, IsProblem, IsNoDomain, IsNoProblem}
+use Rattle.patty.specs.Texts.{IsSpelled, IsFault}
+
+-- these bytes spell this domain, and this problem, in the thin form
+abbrev pub IsDomain : List ℕ → DomainAst → Type 0
+IsDomain bytes domain = IsSpelled domain_of bytes domain
+
+abbrev pub IsProblem : List ℕ → ProblemAst → Type 0
+IsProblem bytes problem = IsSpelled problem_of bytes problem
+
+-- the first fault of a domain's text, and of a problem's
+abbrev pub IsDomainFault : List ℕ → TextFault → Type 0
+IsDomainFault bytes fault = IsFault domain_of source.Domain bytes fault
+
+abbrev pub IsProblemFault : List ℕ → TextFault → Type 0
+IsProblemFault bytes fault = IsFault problem_of source.Problem bytes fault
 
 -- two texts spell a domain and a problem, whose goal holds at the start or not
 pub record Says (domain problem : List ℕ) (holds : Bool) : Type 0 where
@@ -19,13 +36,16 @@ pub record Says (domain problem : List ℕ) (holds : Bool) : Type 0 where
   pub is_problem : IsProblem problem second
   pub start : holds_at_start second ≡ holds
 
+-- the first fault of two texts: that of the domain, or else that of the problem
+abbrev pub IsFirstOf : List ℕ → List ℕ → TextFault → Type 0
+IsFirstOf domain problem fault = IsDomainFault domain fault ⊎ (((first : DomainAst) × IsDomain domain first) × IsProblemFault problem fault)
+
 -- what two texts come to; the domain is judged first
 abbrev pub Decides : List ℕ → List ℕ → Verdict → Type 0
 Decides domain problem verdict.Usage = ⊥
 Decides domain problem (verdict.ReadFault file) = ⊥
 Decides domain problem (verdict.Long file) = ⊥
-Decides domain problem (verdict.Fault source.Domain) = IsNoDomain domain
-Decides domain problem (verdict.Fault source.Problem) = ((d : DomainAst) × IsDomain domain d) × IsNoProblem problem
+Decides domain problem (verdict.Fault fault) = IsFirstOf domain problem fault
 Decides domain problem verdict.Plan = Says domain problem true
 Decides domain problem verdict.Refuted = Says domain problem false
 Decides domain problem verdict.Memory = Unit {0}
@@ -63,7 +83,7 @@ abbrev pub Named : (List ℕ → Option (List ℕ)) → (List ℕ → ℕ) → (
 Named content before now ns verdict.Usage = ⊥
 Named content before now ns (verdict.ReadFault file) = FailsAt content before now ns file
 Named content before now ns (verdict.Long file) = IsLong content ns file
-Named content before now ns (verdict.Fault file) = Reads content ns (verdict.Fault file)
+Named content before now ns (verdict.Fault fault) = Reads content ns (verdict.Fault fault)
 Named content before now ns verdict.Plan = Reads content ns verdict.Plan
 Named content before now ns verdict.Refuted = Reads content ns verdict.Refuted
 Named content before now ns verdict.Memory = Unit {0}

@@ -1,7 +1,7 @@
 -- What each status of a run says, and which status is due (this project).
 use Rattle.std.specs.Prelude.{◌≡◌, ◌⊎◌, ◌<◌, ◌≤◌, ℕ, length, List, Option, Some, None}
 use Rattle.std.specs.Io.KnownBytes.{Appends}
-use Rattle.sexpr.specs.Spelling.{joined}
+use Rattle.sexpr.specs.declared.fault.TextFault.{TextFault}
 use Rattle.sexpr.specs.declared.fault.Source.{Source}
 use Rattle.sexpr.specs.declared.fault.Source.TheVariants as source
 use Rattle.patty_io.specs.Faults.{Rose}
@@ -9,7 +9,7 @@ use Rattle.patty_io.specs.Shelf.{limit}
 use Rattle.patty.specs.declared.verdict.Verdict.{Verdict}
 use Rattle.patty.specs.declared.verdict.Verdict.TheVariants as verdict
 use Rattle.patty.specs.Cause.{Decides, Reads, IsLong, FailsAt, Causes}
-use Rattle.patty.specs.Printed.{lines_of, status_of, AppendsFront, Prints}
+use Rattle.patty.specs.Printed.{joined, lines_of, status_of, AppendsFront, Prints}
 
 -- some verdict has its cause, and is printed
 pub record Runs (content : List ℕ → Option (List ℕ)) (read_before read_now : List ℕ → ℕ) (named : Option (List ℕ × List ℕ))
@@ -25,12 +25,12 @@ pub record Comes (content : List ℕ → Option (List ℕ)) (named : Option (Lis
   pub reads : Reads content ns v
   pub printed : Appends old new (joined (lines_of v))
 
--- a text isn't of the thin form, or a file is too long, and the fault line is printed
+-- the first fault of the texts is printed, or that a file is too long
 pub record IsRefused (content : List ℕ → Option (List ℕ)) (named : Option (List ℕ × List ℕ)) (old new : Option (List ℕ)) : Type 0 where
-  pub file : Source
   pub ns : List ℕ × List ℕ
   pub right : named ≡ Some ns
-  pub why : (Reads content ns (verdict.Fault file) × Appends old new (joined (lines_of (verdict.Fault file)))) ⊎ (IsLong content ns file × Appends old new (joined (lines_of (verdict.Long file))))
+  pub why : ((fault : TextFault) × Reads content ns (verdict.Fault fault) × Appends old new (joined (lines_of (verdict.Fault fault))))
+      ⊎ ((file : Source) × IsLong content ns file × Appends old new (joined (lines_of (verdict.Long file))))
 
 -- the words aren't right, and the usage line is printed
 pub record IsUsage (named : Option (List ℕ × List ℕ)) (old new : Option (List ℕ)) : Type 0 where
@@ -76,7 +76,7 @@ FilesCall content ns verdict.Usage = ⊥
 FilesCall content ns (verdict.ReadFault file) = ⊥
 FilesCall content ns (verdict.Long source.Domain) = IsToldLong (content ns.0)
 FilesCall content ns (verdict.Long source.Problem) = ((domain : List ℕ) × IsTold (content ns.0) domain) × IsToldLong (content ns.1)
-FilesCall content ns (verdict.Fault file) = TextsCall content ns (verdict.Fault file)
+FilesCall content ns (verdict.Fault fault) = TextsCall content ns (verdict.Fault fault)
 FilesCall content ns verdict.Plan = TextsCall content ns verdict.Plan
 FilesCall content ns verdict.Refuted = TextsCall content ns verdict.Refuted
 FilesCall content ns verdict.Memory = ⊥

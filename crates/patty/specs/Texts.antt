@@ -1,42 +1,48 @@
--- What a text spells.
-use Rattle.std.specs.Prelude.{◌≡◌, ℕ, List, Some, Ok, Err, Result}
+-- What one text comes to: the syntax that it spells in the thin form, or its first fault. `form` is what the crate of the
+-- domain or of the problem makes of a tree.
+use Rattle.std.specs.Prelude.{◌≡◌, ◌⊎◌, ℕ, List, [], Option, Some, None, Ok, Err, Result}
 use Rattle.sexpr.specs.declared.tree.Tree.{Tree}
+use Rattle.sexpr.specs.declared.fault.Source.{Source}
+use Rattle.sexpr.specs.declared.fault.TextFault.{TextFault}
 use Rattle.sexpr.specs.declared.fault.TextRefusal.{TextRefusal}
 use Rattle.sexpr.specs.declared.fault.TextRefusal.TheVariants as refusal
-use Rattle.sexpr.specs.Spelling.{IsText}
-use Rattle.pddl_domain.specs.declared.ast.DomainAst.{DomainAst}
-use Rattle.pddl_domain.specs.Domain.{domain_of}
-use Rattle.pddl_problem.specs.declared.ast.ProblemAst.{ProblemAst}
-use Rattle.pddl_problem.specs.Problem.{problem_of}
+use Rattle.sexpr.specs.Read.{IsText, IsFirstFault}
 
--- these bytes spell this domain
-pub record IsDomain (bytes : List ℕ) (domain : DomainAst) : Type 0 where
-  pub tree : Tree
-  pub spelled : IsText bytes tree
-  pub is : domain_of tree ≡ Some domain
+-- a fault of a file, as it is answered
+abbrev pub report : Source → ℕ → ℕ → List ℕ → TextFault
+report file kind place word = record { file = file; kind = kind; place = place; word = word }
 
--- these bytes spell this problem
-pub record IsProblem (bytes : List ℕ) (problem : ProblemAst) : Type 0 where
-  pub tree : Tree
-  pub spelled : IsText bytes tree
-  pub is : problem_of tree ≡ Some problem
+-- a text that is one list and isn't of the thin form
+abbrev pub not_built : Source → TextFault
+not_built file = report file 23 0 []
 
--- these bytes spell no domain, and no problem
-abbrev pub IsNoDomain : List ℕ → Type 0
-IsNoDomain bytes = (domain : DomainAst) → IsDomain bytes domain → ⊥
+module _ {A : Type 0} (form : Tree → Option A) where
+  -- no pass finds a fault in these bytes, and they spell this syntax
+  pub record IsSpelled (bytes : List ℕ) (syntax : A) : Type 0 where
+    pub tree : Tree
+    pub text : IsText bytes tree
+    pub is : form tree ≡ Some syntax
 
-abbrev pub IsNoProblem : List ℕ → Type 0
-IsNoProblem bytes = (problem : ProblemAst) → IsProblem bytes problem → ⊥
+  -- the first fault of the bytes and of their parentheses
+  pub record IsUnread (file : Source) (bytes : List ℕ) (fault : TextFault) : Type 0 where
+    pub kind : ℕ
+    pub place : ℕ
+    pub first : IsFirstFault bytes kind place
+    pub is : fault ≡ report file kind place []
 
--- what reading one text answers
-abbrev pub Refuses : TextRefusal → Type 0 → Type 0
-Refuses (refusal.Fault f) none = none
-Refuses refusal.Memory none = Unit {0}
+  -- no fault, and another form
+  pub record IsNotBuilt (file : Source) (bytes : List ℕ) (fault : TextFault) : Type 0 where
+    pub tree : Tree
+    pub text : IsText bytes tree
+    pub other : form tree ≡ None
+    pub is : fault ≡ not_built file
 
-abbrev pub ReadsDomain : List ℕ → Result DomainAst TextRefusal → Type 0
-ReadsDomain bytes (Ok domain) = IsDomain bytes domain
-ReadsDomain bytes (Err e) = Refuses e (IsNoDomain bytes)
+  -- the first fault of the text
+  abbrev pub IsFault : Source → List ℕ → TextFault → Type 0
+  IsFault file bytes fault = IsUnread file bytes fault ⊎ IsNotBuilt file bytes fault
 
-abbrev pub ReadsProblem : List ℕ → Result ProblemAst TextRefusal → Type 0
-ReadsProblem bytes (Ok problem) = IsProblem bytes problem
-ReadsProblem bytes (Err e) = Refuses e (IsNoProblem bytes)
+  -- what reading the text answers
+  abbrev pub ReadsText : Source → List ℕ → Result A TextRefusal → Type 0
+  ReadsText file bytes (Ok syntax) = IsSpelled bytes syntax
+  ReadsText file bytes (Err (refusal.Fault fault)) = IsFault file bytes fault
+  ReadsText file bytes (Err refusal.Memory) = Unit {0}

@@ -65,7 +65,7 @@ fn run<F: Shelf, O: Sink>(alloc: Global, words: &[String], files: &mut F, out: &
     ensures { Runs (F.content files.old) (F.faults files.old) (F.faults files.new) (names words.now) (O.written out.old) (O.written out.new) (O.faults out.old) (O.faults out.new) result.code }
 {
     let verdict = judge(alloc, words, files);
-    print(verdict, out)
+    print(alloc, &verdict, out)
 }
 
 /// Runs the planner on the words behind its name: two file names, `--max-n` and `0`.

@@ -29,6 +29,10 @@ const DOMAIN_FAULT: &str = "fault domain 23 0\n";
 
 const PROBLEM_FAULT: &str = "fault problem 23 0\n";
 
+/// 201 opening parentheses.
+const DEEP: &str =
+    "(((((((((((((((((((((((((((((((((((((((((((((((((((((((((((((((((((((((((((((((((((((((((((((((((((((((((((((((((((((((((((((((((((((((((((((((((((((((((((((((((((((((((((((((((((((((((((((((((((((((((";
+
 /// A run: its words, the two texts, the calls of the shelf and the sink that fail, and what is to come.
 #[derive(Clone, Copy)]
 struct Row {
@@ -120,7 +124,7 @@ fn rows(rt: HostRuntime) -> Result<(), Fail> {
     Ok(())
 }
 
-/// Thin texts in several spellings give 0 or 1, and texts that are nearly thin are refused, the domain first.
+/// Thin texts in several spellings give 0 or 1. Other texts are refused, each at its first fault, the domain first.
 #[test]
 fn thin_texts(rt: HostRuntime) -> Result<(), Fail> {
     let all = [
@@ -151,9 +155,9 @@ fn thin_texts(rt: HostRuntime) -> Result<(), Fail> {
         ),
         run_of(
             DOMAIN,
-            "(define (problem p) (:domain d) (:init (g)) (:goal (g))) ; p",
-            3,
-            PROBLEM_FAULT,
+            "; p (\n(define (problem p) (:domain d) (:init (g)) (:goal (g))) ; )",
+            0,
+            PLAN,
         ),
         run_of(
             DOMAIN,
@@ -171,10 +175,18 @@ fn thin_texts(rt: HostRuntime) -> Result<(), Fail> {
             DOMAIN,
             "(define (problem p) (:domain d) (:init (g)) (:goal (g))",
             3,
-            PROBLEM_FAULT,
+            "fault problem 2 55\n",
         ),
-        run_of(DOMAIN, "", 3, PROBLEM_FAULT),
+        run_of(DOMAIN, "", 3, "fault problem 2 0\n"),
+        run_of(
+            DOMAIN,
+            "(define (problem p) (:domain d) (:init (g)",
+            3,
+            "fault problem 2 42\n",
+        ),
         run_of("(define (domain d))", "", 3, DOMAIN_FAULT),
+        run_of("(define (domain d\x07", "", 3, "fault domain 1 17\n"),
+        run_of(DEEP, "", 3, "fault domain 3 200\n"),
         run_of(
             "(define (domain d) (:predicates (not)))",
             TRUE,
@@ -203,7 +215,7 @@ fn thin_texts(rt: HostRuntime) -> Result<(), Fail> {
             "(define (domain d) (:predicates (g)))(define)",
             TRUE,
             3,
-            DOMAIN_FAULT,
+            "fault domain 2 37\n",
         ),
     ];
     for row in &all {

@@ -1,7 +1,10 @@
-//! What two texts come to: whether the goal is true at the start.
+//! What two texts come to: the first fault, or whether the goal is true at the start.
 ghost use Rattle.std.specs.Prelude.{◌≡◌, ◌≤◌, length};
 ghost use Rattle.patty.specs.Start.{is_given as is_given_spec, holds as holds_spec, holds_at_start as holds_at_start_spec};
-ghost use Rattle.patty.specs.Texts.{IsDomain, IsProblem, ReadsDomain, ReadsProblem};
+ghost use Rattle.sexpr.specs.declared.fault.Source.TheVariants as source;
+ghost use Rattle.pddl_domain.specs.Domain.{domain_of};
+ghost use Rattle.pddl_problem.specs.Problem.{problem_of};
+ghost use Rattle.patty.specs.Texts.{ReadsText};
 ghost use Rattle.patty.specs.Cause.{Decides};
 
 use crate::Verdict;
@@ -40,17 +43,23 @@ fn holds_at_start(problem: &ProblemAst) -> bool
 
 fn domain_in(alloc: Global, bytes: &[u8]) -> Result<DomainAst, TextRefusal>
     requires { length bytes.now ≤ 67108864 }
-    ensures { ReadsDomain bytes.now result }
+    ensures { ReadsText domain_of source.Domain bytes.now result }
 {
-    let tree = read(alloc, Source::Domain, bytes)?;
+    let tree = match read(alloc, Source::Domain, bytes) {
+        Ok(tree) => tree,
+        Err(refusal) => return Err(refusal),
+    };
     read_domain(alloc, &tree)
 }
 
 fn problem_in(alloc: Global, bytes: &[u8]) -> Result<ProblemAst, TextRefusal>
     requires { length bytes.now ≤ 67108864 }
-    ensures { ReadsProblem bytes.now result }
+    ensures { ReadsText problem_of source.Problem bytes.now result }
 {
-    let tree = read(alloc, Source::Problem, bytes)?;
+    let tree = match read(alloc, Source::Problem, bytes) {
+        Ok(tree) => tree,
+        Err(refusal) => return Err(refusal),
+    };
     read_problem(alloc, &tree)
 }
 
@@ -62,7 +71,7 @@ pub fn decide(alloc: Global, domain: &[u8], problem: &[u8]) -> Verdict
 {
     match domain_in(alloc, domain) {
         Ok(_) => {}
-        Err(TextRefusal::Fault(_)) => return Verdict::Fault(Source::Domain),
+        Err(TextRefusal::Fault(fault)) => return Verdict::Fault(fault),
         Err(TextRefusal::Memory) => return Verdict::Memory,
     }
     match problem_in(alloc, problem) {
@@ -73,7 +82,7 @@ pub fn decide(alloc: Global, domain: &[u8], problem: &[u8]) -> Verdict
                 Verdict::Refuted
             }
         }
-        Err(TextRefusal::Fault(_)) => Verdict::Fault(Source::Problem),
+        Err(TextRefusal::Fault(fault)) => Verdict::Fault(fault),
         Err(TextRefusal::Memory) => Verdict::Memory,
     }
 }

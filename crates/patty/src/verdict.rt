@@ -1,8 +1,8 @@
 //! What a run comes to, before it is printed.
-use sexpr::Source;
+use sexpr::{Source, TextFault};
 
 /// What a run comes to.
-#[derive(Clone, Copy, Debug, PartialEq, Eq)]
+#[derive(Debug, Drop)]
 pub enum Verdict {
     /// The words aren't right.
     Usage,
@@ -10,8 +10,8 @@ pub enum Verdict {
     ReadFault(Source),
     /// A file is too long.
     Long(Source),
-    /// A text is refused.
-    Fault(Source),
+    /// A text is refused, for its first fault.
+    Fault(TextFault),
     /// The plan of no steps is valid.
     Plan,
     /// No plan of no steps is valid.

@@ -1,10 +1,6 @@
 -- The domain that a tree spells, in the thin form: `(define (domain NAME) (:predicates ATOM ..) ACTION ..)`.
-use Rattle.std.specs.Prelude.{◌≡◌, List, [], ◌∷◌, Option, Some, None, Ok, Err, Result, codes, option_map}
+use Rattle.std.specs.Prelude.{List, [], ◌∷◌, Option, Some, None, codes, option_map}
 use Rattle.sexpr.specs.declared.tree.Tree.{Tree}
-use Rattle.sexpr.specs.declared.fault.Source.TheVariants as source
-use Rattle.sexpr.specs.declared.fault.TextRefusal.{TextRefusal}
-use Rattle.sexpr.specs.declared.fault.TextRefusal.TheVariants as refusal
-use Rattle.sexpr.specs.Read.{not_built}
 use Rattle.pddl_domain.specs.declared.ast.Head.{Head}
 use Rattle.pddl_domain.specs.declared.ast.DomainAst.{DomainAst}
 use Rattle.pddl_domain.specs.Parts.{◌>>=◌, section, named, atom}
@@ -26,12 +22,3 @@ domain_sections ts = None
 
 unfoldable pub domain_of : Tree → Option DomainAst
 domain_of tree = section (codes "define") tree >>= domain_sections
-
-abbrev pub RefusesDomain : TextRefusal → Option DomainAst → Type 0
-RefusesDomain (refusal.Fault f) answer = (f ≡ not_built source.Domain) × (answer ≡ None)
-RefusesDomain refusal.Memory answer = Unit {0}
-
--- the domain, or else the fault, unless memory ran out
-abbrev pub ReadsDomain : Option DomainAst → Result DomainAst TextRefusal → Type 0
-ReadsDomain answer (Ok domain) = answer ≡ Some domain
-ReadsDomain answer (Err e) = RefusesDomain e answer

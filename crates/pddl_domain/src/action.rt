@@ -1,11 +1,12 @@
 //! An action without parameters: an atom that it makes true, and perhaps one that it needs.
 ghost use Rattle.std.specs.Prelude.{Some, true, [], ◌∷◌};
-ghost use Rattle.sexpr.specs.Machine.{Gives};
+ghost use Rattle.pddl_domain.specs.Reading.{Gives};
 ghost use Rattle.pddl_domain.specs.Action as action;
 
 use crate::ast::{ActionAst, CondAst, EffAst, Spot};
 use crate::parts::{atom, is_word, name, section};
-use sexpr::{Stop, Tree};
+use crate::stop::Stop;
+use sexpr::Tree;
 use sqlite_items::Items;
 use std::alloc::Global;
 

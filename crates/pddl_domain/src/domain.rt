@@ -1,11 +1,14 @@
 //! The domain that a tree spells.
-ghost use Rattle.sexpr.specs.Machine.{Gives};
-ghost use Rattle.pddl_domain.specs.Domain.{predicates as predicates_spec, domain_sections, domain_of, ReadsDomain};
+ghost use Rattle.pddl_domain.specs.Reading.{Gives};
+ghost use Rattle.pddl_domain.specs.Domain.{predicates as predicates_spec, domain_sections, domain_of};
+ghost use Rattle.pddl_domain.specs.Reading.{ReadsTree};
+ghost use Rattle.sexpr.specs.declared.fault.Source.TheVariants as source;
 
 use crate::action::actions;
 use crate::ast::{DomainAst, Head};
 use crate::parts::{atom, named, section};
-use sexpr::{Source, Stop, TextRefusal, Tree, unread};
+use crate::stop::{Stop, refusal};
+use sexpr::{Source, TextRefusal, Tree};
 use sqlite_items::Items;
 use std::alloc::Global;
 
@@ -51,11 +54,10 @@ fn domain_in(alloc: Global, tree: &Tree) -> Result<DomainAst, Stop>
 
 /// The domain that a tree spells. A tree that isn't of the thin form is refused with the kind 23.
 pub fn read_domain(alloc: Global, tree: &Tree) -> Result<DomainAst, TextRefusal>
-    ensures { ReadsDomain (domain_of tree.now) result }
+    ensures { ReadsTree source.Domain (domain_of tree.now) result }
 {
     match domain_in(alloc, tree) {
         Ok(domain) => Ok(domain),
-        Err(Stop::Fault) => Err(TextRefusal::Fault(unread(alloc, Source::Domain))),
-        Err(Stop::Memory) => Err(TextRefusal::Memory),
+        Err(stop) => Err(refusal(alloc, Source::Domain, stop)),
     }
 }

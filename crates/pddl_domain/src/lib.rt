@@ -9,7 +9,9 @@ mod ast;
 mod domain;
 mod names;
 mod parts;
+mod stop;
 
 pub use ast::{ActionAst, CondAst, DomainAst, EffAst, Head, Spot, Typed};
 pub use domain::read_domain;
 pub use parts::{atom, name, named, only, section};
+pub use stop::{Stop, refusal};

@@ -1,12 +1,13 @@
 //! The parts that a domain's and a problem's tree are made of: words, sections and atoms.
 ghost use Rattle.std.specs.Prelude.{◌≡◌, Some};
-ghost use Rattle.sexpr.specs.Machine.{Gives};
+ghost use Rattle.pddl_domain.specs.Reading.{Gives};
 ghost use Rattle.pddl_domain.specs.Names.{is_name as is_name_spec, is_predicate as is_predicate_spec};
 ghost use Rattle.pddl_domain.specs.Parts as parts;
 
 use crate::ast::Spot;
 use crate::names::{is_name, is_predicate};
-use sexpr::{Stop, Text, Tree};
+use crate::stop::Stop;
+use sexpr::{Text, Tree};
 use std::alloc::Global;
 
 fn spot(alloc: Global, text: &str, place: u32) -> Result<Spot, Stop>

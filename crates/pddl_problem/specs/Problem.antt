@@ -1,12 +1,8 @@
 -- The problem that a tree spells, in the thin form:
 -- `(define (problem NAME) (:domain NAME) (:init ATOM ..) (:goal ATOM))`.
-use Rattle.std.specs.Prelude.{◌≡◌, true, List, [], ◌∷◌, Option, Some, None, Ok, Err, Result, codes, option_map}
+use Rattle.std.specs.Prelude.{true, List, [], ◌∷◌, Option, Some, None, codes, option_map}
 use Rattle.sexpr.specs.declared.tree.Tree.{Tree}
-use Rattle.sexpr.specs.declared.fault.Source.TheVariants as source
-use Rattle.sexpr.specs.declared.fault.TextRefusal.{TextRefusal}
-use Rattle.sexpr.specs.declared.fault.TextRefusal.TheVariants as refusal
 use Rattle.sexpr.specs.Opened.{start_of}
-use Rattle.sexpr.specs.Read.{not_built}
 use Rattle.pddl_domain.specs.declared.ast.CondAst.TheVariants.{Lit}
 use Rattle.pddl_domain.specs.Parts.{◌>>=◌, section, named, only, atom}
 use Rattle.pddl_problem.specs.declared.ast.ProblemAst.{ProblemAst}
@@ -32,12 +28,3 @@ problem_sections ts = None
 
 unfoldable pub problem_of : Tree → Option ProblemAst
 problem_of tree = section (codes "define") tree >>= problem_sections
-
-abbrev pub RefusesProblem : TextRefusal → Option ProblemAst → Type 0
-RefusesProblem (refusal.Fault f) answer = (f ≡ not_built source.Problem) × (answer ≡ None)
-RefusesProblem refusal.Memory answer = Unit {0}
-
--- the problem, or else the fault, unless memory ran out
-abbrev pub ReadsProblem : Option ProblemAst → Result ProblemAst TextRefusal → Type 0
-ReadsProblem answer (Ok problem) = answer ≡ Some problem
-ReadsProblem answer (Err e) = RefusesProblem e answer

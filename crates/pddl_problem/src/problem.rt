@@ -1,12 +1,14 @@
 //! The problem that a tree spells.
 ghost use Rattle.std.specs.Prelude.{Some, true, [], ◌∷◌};
-ghost use Rattle.sexpr.specs.Machine.{Gives};
+ghost use Rattle.pddl_domain.specs.Reading.{Gives};
 ghost use Rattle.pddl_domain.specs.declared.ast.CondAst.TheVariants as cond;
-ghost use Rattle.pddl_problem.specs.Problem.{facts as facts_spec, problem_sections, problem_of, ReadsProblem};
+ghost use Rattle.pddl_problem.specs.Problem.{facts as facts_spec, problem_sections, problem_of};
+ghost use Rattle.pddl_domain.specs.Reading.{ReadsTree};
+ghost use Rattle.sexpr.specs.declared.fault.Source.TheVariants as source;
 
 use crate::ast::{InitAst, ProblemAst};
-use pddl_domain::{CondAst, Spot, atom, named, only, section};
-use sexpr::{Source, Stop, TextRefusal, Tree, unread};
+use pddl_domain::{CondAst, Spot, Stop, atom, named, only, refusal, section};
+use sexpr::{Source, TextRefusal, Tree};
 use sqlite_items::Items;
 use std::alloc::Global;
 
@@ -72,11 +74,10 @@ fn problem_in(alloc: Global, tree: &Tree) -> Result<ProblemAst, Stop>
 
 /// The problem that a tree spells. A tree that isn't of the thin form is refused with the kind 23.
 pub fn read_problem(alloc: Global, tree: &Tree) -> Result<ProblemAst, TextRefusal>
-    ensures { ReadsProblem (problem_of tree.now) result }
+    ensures { ReadsTree source.Problem (problem_of tree.now) result }
 {
     match problem_in(alloc, tree) {
         Ok(problem) => Ok(problem),
-        Err(Stop::Fault) => Err(TextRefusal::Fault(unread(alloc, Source::Problem))),
-        Err(Stop::Memory) => Err(TextRefusal::Memory),
+        Err(stop) => Err(refusal(alloc, Source::Problem, stop)),
     }
 }

@@ -1,8 +1,6 @@
 use Rattle.std.proofs.Common.{List, ℕ, Option, subst}
-use Rattle.sexpr.specs.declared.fault.Source.TheVariants as source
 use Rattle.patty.specs.Cause.{IsHeld, Decides}
-use Rattle.patty.specs.Taken.{IsNotTaken}
-use Rattle.patty.proofs.CauseLaws.{decided, domain_refused, problem_refused}
+use Rattle.patty.proofs.CauseLaws.{decided}
 use Rattle.patty.proofs.program.judge_files.Goals as goal
 
 pub returns : goal.returns

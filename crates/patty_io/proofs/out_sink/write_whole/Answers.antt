@@ -1,4 +1,4 @@
-use Rattle.std.proofs.Common.{◌≡◌, ℕ, List, sym, subst, ◌∙◌}
+use Rattle.std.proofs.Common.{ℕ, List, sym, subst, ◌∙◌}
 use Rattle.std.proofs.lemmas.List.{take_rest}
 use Rattle.patty_io.proofs.Filling.{Written, written_none, written_more, written_whole, written_front, written_kept, none_left}
 use Rattle.patty_io.proofs.out_sink.write_whole.Goals as goal

@@ -1,0 +1,9 @@
+pub mod Ring
+pub mod Expression
+pub mod Value
+pub mod Solve
+pub mod Differences
+pub mod IntRing
+pub mod GcdLaws
+pub mod Reduce
+pub mod Examples

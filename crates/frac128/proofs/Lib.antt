@@ -1,0 +1,12 @@
+pub mod Parts
+pub mod Powers
+pub mod Reading
+pub mod Stein
+pub mod OneAnswer
+pub mod OneSpelling
+pub mod Digits
+pub mod Halves
+pub mod Inverse
+pub mod Named
+pub mod Order
+pub mod Passed

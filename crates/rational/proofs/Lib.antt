@@ -1,0 +1,12 @@
+pub mod FieldLaws
+pub mod Division
+pub mod Signs
+pub mod OrderLaws
+pub mod BoundLaws
+pub mod FloorLaws
+pub mod SumLaws
+pub mod LinearLaws
+pub mod FarkasLaws
+pub mod MulLaws
+pub mod AddLaws
+pub mod Examples
