@@ -1,5 +1,5 @@
 //! Steps on whole numbers: a product, a sum and a quotient. `times` and `plus` are where an operation finds out that a
-//! number passes 128 bits. Each takes a short way where its operands fit 64 bits.
+//! number passes 128 bits. `times` and `shrink` take a short way where their operands have 63 bits and a sign.
 ghost use Rattle.std.specs.Prelude.{◌≡◌, ◌<◌, ◌^◌, ◌/◌, pos, ◌<ℤ◌, ◌*ℤ◌, ◌+ℤ◌, ◌↔◌, IsTrue, unsigned_abs, int_div};
 ghost use Rattle.algebra.specs.Gcd.{gcd};
 ghost use Rattle.frac128.specs.Bounds.{IsWithin, KeptWithin};

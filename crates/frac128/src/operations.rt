@@ -1,5 +1,5 @@
 //! The four operations. Begin with `sum` and `product`: `sub` is the sum with the negative, `div` the product with the
-//! inverse. A greatest common divisor is taken out before two numbers are multiplied, so that as few results as can be
+//! inverse. A greatest common divisor is taken out before two numbers are multiplied, so that fewer numbers
 //! pass 128 bits on the way.
 ghost use Rattle.std.specs.Prelude.{◌≡◌, ◌≢◌, ◌/◌, pos, int_div, unsigned_abs};
 ghost use Rattle.algebra.specs.Gcd.{gcd};

@@ -12,7 +12,8 @@ use crate::gcd::divisor;
 use crate::spelling::{number, split_parts};
 use std::alloc::AllocError;
 
-/// Why a text gives no fraction: it is not of the form, or one of its numbers is past 2^127 - 1.
+/// Why a text gives no fraction. `Form`: it isn't of the form, or isn't in lowest terms. `Wide`: one of its numbers is
+/// past 2^127 - 1, or more than 38 digits behind the point count.
 #[derive(Clone, Copy, PartialEq, Eq, Debug)]
 pub enum NumFault {
     Form,

@@ -18,7 +18,7 @@ opened_before text place = count_by (λ b. b == 40) (take place text)
 abbrev pub closed_before : List ℕ → ℕ → ℕ
 closed_before text place = count_by (λ b. b == 41) (take place text)
 
--- how many lists are open at a place
+-- how many lists are open at a place (behind a `)` too many the count is too low; no first fault stands there)
 abbrev pub open_at : List ℕ → ℕ → ℕ
 open_at text place = opened_before text place - closed_before text place
 
