@@ -46,6 +46,13 @@ def deep(domain, problem, size):
     return write_repeated(domain, "(define (domain d) (:predicates", nest, "))", size)
 
 
+def shortest(domain, problem, size):
+    # As many lists as a text may have: the most memory for its bytes.
+    head, tail = "(define (problem p) (:domain d) (:init ", ") (:goal (g)))"
+    write_repeated(domain, SMALL_DOMAIN, "", "", 0)
+    return write_repeated(problem, head, "(a)", tail, size)
+
+
 def measured(shape, size):
     with tempfile.TemporaryDirectory() as folder:
         domain, problem = os.path.join(folder, "d"), os.path.join(folder, "p")
@@ -60,7 +67,7 @@ def measured(shape, size):
 def main():
     sizes = [int(word) for word in sys.argv[1:]] or [1, 4, 16, 64]
     print(f"{'shape':<14}{'MB':>5}{'seconds':>10}{'MB/s':>8}{'peak MB':>10}{'status':>8}")
-    for shape in (many_atoms, many_actions, wide, deep):
+    for shape in (many_atoms, many_actions, wide, deep, shortest):
         for size in sizes:
             # The longest file that is taken has 67,108,864 bytes.
             length, seconds, peak, status = measured(shape, min(size * 1_048_576, 67_108_000))
