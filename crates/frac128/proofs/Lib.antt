@@ -8,5 +8,6 @@ pub mod Digits
 pub mod Halves
 pub mod Inverse
 pub mod Named
+pub mod Number
 pub mod Order
 pub mod Passed

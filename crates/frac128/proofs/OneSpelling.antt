@@ -15,10 +15,10 @@ use Rattle.frac128.specs.Text.{Spelling, Spells, behind}
 abbrev pub digit_test : ℕ → Bool
 digit_test = is_ascii_digit
 
-passes : (c : ℕ) → digit_value c < 10 → digit_test c ≡ true
+pub passes : (c : ℕ) → digit_value c < 10 → digit_test c ≡ true
 passes c h = let r = digit_from_value c h in search rules
 
-value_of_passing : (c : ℕ) → digit_test c ≡ true → digit_value c < 10
+pub value_of_passing : (c : ℕ) → digit_test c ≡ true → digit_value c < 10
 value_of_passing c h = search rules
 
 prefix_by : (c : ℕ) (cs : List ℕ) (t : Bool) → digit_test c ≡ t → cond t (1 + prefix_len digit_test cs) 0 ≡ length (c ∷ cs) → (prefix_len digit_test cs ≡ length cs → AllDigits 10 cs) → AllDigits 10 (c ∷ cs)

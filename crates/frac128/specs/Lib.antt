@@ -3,6 +3,7 @@ pub mod Code
 pub mod Decimal
 pub mod Fields
 pub mod Laws
+pub mod Number
 pub mod Operations
 pub mod Order
 pub mod Text

@@ -2,9 +2,11 @@
 //! dropped first, so that they count for no limit.
 ghost use Rattle.std.specs.Prelude.{◌≡◌, ◌<◌, ◌≤◌, ◌^◌, ◌++◌, IfSome, MatchOption};
 ghost use Rattle.std.specs.Option.{option_copied};
+ghost use Rattle.std.specs.Result.{result_ok};
 ghost use Rattle.std.specs.Str.Parse.{IsNumeral, AllDigits, digits_value};
 ghost use Rattle.frac128.specs.Bounds.{KeptNatural};
 ghost use Rattle.frac128.specs.Decimal.{ReadsDecimal, counted, without_end_zeros};
+ghost use Rattle.frac128.specs.Number.{number_of};
 
 use crate::fraction::Frac;
 use crate::spelling::{number, split_parts};
@@ -15,7 +17,8 @@ const MOST_PLACES: usize = 38;
 
 impl Frac {
     pub fn from_decimal(text: &[u8]) -> Result<Frac, NumFault>
-        ensures { ReadsDecimal text.now result }
+        ensures reads { ReadsDecimal text.now result }
+        ensures number { result_ok result ≡ number_of text.now }
     {
         let Some(parts) = split_parts(text, b'.') else {
             return Err(NumFault::Form);
