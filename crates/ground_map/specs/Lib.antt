@@ -1,0 +1,2 @@
+pub mod GroundMap
+pub mod inside

@@ -1,0 +1,6 @@
+mod BelowLaws
+mod EntryLaws
+mod AnswerLaws
+mod WalkLaws
+mod SettleLaws
+mod CircleLaws
