@@ -1,0 +1,14 @@
+pub mod Trees
+pub mod Judging
+pub mod Loops
+pub mod PartsLaws
+pub mod Depth
+pub mod Expressions
+pub mod Conditions
+pub mod TypedLists
+pub mod ConditionLaws
+pub mod Concluding
+pub mod SectionLaws
+pub mod FirstFaults
+pub mod SeenLaws
+pub mod Keywords

@@ -1,0 +1,27 @@
+-- What a reader of a whole text answers.
+use Rattle.std.specs.Prelude.{◌≡◌, Option, Some, None, Result, Ok, Err}
+use Rattle.sexpr.specs.declared.fault.Source.{Source}
+use Rattle.sexpr.specs.declared.fault.TextFault.{TextFault}
+use Rattle.sexpr.specs.declared.fault.TextRefusal.{TextRefusal}
+use Rattle.sexpr.specs.declared.fault.TextRefusal.TheVariants as refusal
+use Rattle.pddl_form.specs.declared.fault.Fault.{Fault}
+use Rattle.pddl_form.specs.Judged.{Judged, good, noted}
+
+-- a fault of a text, which is that of a domain or of a problem
+abbrev pub text_fault : Source → Fault → TextFault
+text_fault file f = record { file = file; kind = f.kind; place = f.place; word = f.word }
+
+abbrev pub concluded : {A : Type 0} → Source → Option A → Option Fault → Result A TextRefusal
+concluded file made (Some f) = Err (refusal.Fault (text_fault file f))
+concluded file (Some a) None = Ok a
+concluded file None None = Err refusal.Memory
+
+-- the fault is the first of all
+abbrev pub RefusesBy : {A : Type 0} → Source → Judged A → TextRefusal → Type 0
+RefusesBy file j (refusal.Fault f) = (first : Fault) × (noted None j ≡ Some first) × (f ≡ text_fault file first)
+RefusesBy file j refusal.Memory = Unit {0}
+
+-- the syntax where there is no fault, and else the first fault, unless memory ran out
+abbrev pub Answers : {A : Type 0} → Source → Judged A → Result A TextRefusal → Type 0
+Answers file j (Ok a) = j ≡ good a
+Answers file j (Err e) = RefusesBy file j e

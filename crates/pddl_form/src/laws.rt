@@ -1,0 +1,23 @@
+//! Laws of the definitions that the contracts cite.
+ghost use Rattle.std.specs.Prelude.{◌≡◌, List, None, Some};
+ghost use Rattle.sexpr.specs.declared.tree.Tree.{Tree};
+ghost use Rattle.pddl_form.specs.declared.fault.Fault.{Fault};
+ghost use Rattle.pddl_form.specs.Condition.{condition_form};
+ghost use Rattle.pddl_form.specs.Expression.{expression_form};
+ghost use Rattle.pddl_form.specs.Faults.{least};
+ghost use Rattle.pddl_form.specs.Laws.{HasOneSyntax, IsFirstOf};
+
+/// A tree without a fault has one syntax as a condition.
+pub fn one_condition()
+    ensures { (tree : Tree) → HasOneSyntax (condition_form tree) }
+{}
+
+/// A tree without a fault has one syntax as an expression.
+pub fn one_expression()
+    ensures { (tree : Tree) → HasOneSyntax (expression_form tree) }
+{}
+
+/// The fault that counts has the least place of all, and of those at its place the least kind.
+pub fn first_fault_is_least()
+    ensures { (faults : List Fault) (first : Fault) → least None faults ≡ Some first → IsFirstOf faults first }
+{}
