@@ -4,14 +4,15 @@ use Rattle.std.specs.Io.KnownBytes.{Appends}
 use Rattle.sexpr.specs.declared.fault.Source.TheVariants as source
 use Rattle.sexpr.specs.declared.fault.TextFault.{TextFault}
 use Rattle.pddl_problem.specs.declared.ast.ProblemAst.{ProblemAst}
-use Rattle.pddl_problem.specs.Problem.{problem_of}
-use Rattle.pddl_domain.specs.declared.ast.DomainAst.{DomainAst}
-use Rattle.pddl_domain.specs.Domain.{domain_of}
+use Rattle.pddl_problem.specs.Problem.{problem_form}
+use Rattle.pddl_domain.specs.declared.domain.DomainAst.{DomainAst}
+use Rattle.pddl_domain.specs.Domain.{domain_form}
 use Rattle.patty_io.specs.Faults.{Rose}
 use Rattle.patty_io.specs.Shelf.{Tells}
 use Rattle.patty.specs.declared.verdict.Verdict.{Verdict}
 use Rattle.patty.specs.declared.verdict.Verdict.TheVariants as verdict
 use Rattle.patty.specs.Start.{holds_at_start}
+use Rattle.patty.specs.Propositional.{is_plain_domain, is_plain_problem}
 use Rattle.patty.proofs.TextLaws.{one_syntax, fault_not, one_fault}
 use Rattle.patty.specs.Cause.{IsDomain, IsProblem, IsDomainFault, IsProblemFault, IsFirstOf, Says, Decides, Reads, IsHeld, IsTooLong, Named, Causes}
 use Rattle.patty.specs.Printed.{joined, lines_of, status_of}
@@ -22,10 +23,10 @@ some_is x y is = cc
 
 -- ---- two texts come to one verdict
 domain_fault_not : (bytes : List ℕ) (fault : TextFault) (domain : DomainAst) → IsDomainFault bytes fault → IsDomain bytes domain → ⊥
-domain_fault_not bytes fault domain is also = fault_not domain_of bytes source.Domain fault domain is also
+domain_fault_not bytes fault domain is also = fault_not domain_form is_plain_domain bytes source.Domain fault domain is also
 
 problem_fault_not : (bytes : List ℕ) (fault : TextFault) (problem : ProblemAst) → IsProblemFault bytes fault → IsProblem bytes problem → ⊥
-problem_fault_not bytes fault problem is also = fault_not problem_of bytes source.Problem fault problem is also
+problem_fault_not bytes fault problem is also = fault_not problem_form is_plain_problem bytes source.Problem fault problem is also
 
 -- two texts that have a first fault say nothing
 fault_says_not : (domain problem : List ℕ) (fault : TextFault) (holds : Bool) → IsFirstOf domain problem fault → Says domain problem holds → ⊥
@@ -33,14 +34,14 @@ fault_says_not domain problem fault holds (inl is) says = domain_fault_not domai
 fault_says_not domain problem fault holds (inr is) says = problem_fault_not problem fault says.second is.1 says.is_problem
 
 one_first : (domain problem : List ℕ) (f g : TextFault) → IsFirstOf domain problem f → IsFirstOf domain problem g → f ≡ g
-one_first domain problem f g (inl is) (inl also) = one_fault domain_of domain source.Domain f g is also
+one_first domain problem f g (inl is) (inl also) = one_fault domain_form is_plain_domain domain source.Domain f g is also
 one_first domain problem f g (inl is) (inr also) = absurd (domain_fault_not domain f also.0.0 is also.0.1)
 one_first domain problem f g (inr is) (inl also) = absurd (domain_fault_not domain g is.0.0 also is.0.1)
-one_first domain problem f g (inr is) (inr also) = one_fault problem_of problem source.Problem f g is.1 also.1
+one_first domain problem f g (inr is) (inr also) = one_fault problem_form is_plain_problem problem source.Problem f g is.1 also.1
 
 says_one : (domain problem : List ℕ) (a b : Bool) → Says domain problem a → Says domain problem b → a ≡ b
 says_one domain problem a b says also =
-    sym says.start ∙ ap holds_at_start (one_syntax problem_of problem says.second also.second says.is_problem also.is_problem) ∙ also.start
+    sym says.start ∙ ap holds_at_start (one_syntax problem_form is_plain_problem problem says.second also.second says.is_problem also.is_problem) ∙ also.start
 
 -- the verdict is the same, or memory ran out
 abbrev IsOne : Verdict → Verdict → Type 0

@@ -1,15 +1,18 @@
 -- A text spells one syntax, or has one first fault.
-use Rattle.std.proofs.Common.{◌≡◌, inl, inr, ℕ, List, [], Option, Result, Ok, Err, sym, ◌∙◌, ap}
+use Rattle.std.proofs.Common.{◌≡◌, inl, inr, ℕ, Bool, true, false, List, [], Option, Some, None, Ok, Err, refl, sym, ◌∙◌, ap, subst}
 use Rattle.sexpr.specs.declared.tree.Tree.{Tree}
 use Rattle.sexpr.specs.declared.fault.Source.{Source}
 use Rattle.sexpr.specs.declared.fault.TextFault.{TextFault}
-use Rattle.sexpr.specs.declared.fault.TextRefusal.{TextRefusal}
-use Rattle.sexpr.specs.declared.fault.TextRefusal.TheVariants as refusal
 use Rattle.sexpr.specs.Read.{IsText, IsFirstFault, Reports, Reads}
 use Rattle.sexpr.proofs.FirstFault.{one_first_fault}
 use Rattle.sexpr.proofs.Unique.{one_tree}
-use Rattle.pddl_domain.specs.Reading.{ReadsTree}
-use Rattle.patty.specs.Texts.{report, IsSpelled, IsFault, ReadsText}
+use Rattle.pddl_form.specs.declared.fault.Fault.{Fault}
+use Rattle.pddl_form.specs.Judged.{Judged, good, noted}
+use Rattle.pddl_form.proofs.Judging.{noted-good}
+use Rattle.sexpr.specs.declared.fault.TextRefusal.{TextRefusal}
+use Rattle.sexpr.specs.declared.fault.TextRefusal.TheVariants as refusal
+use Rattle.pddl_form.specs.Concluded.{RefusesBy}
+use Rattle.patty.specs.Texts.{report, not_built, IsSpelled, IsUnread, IsMisshapen, IsNotBuilt, IsFault, ReadsText}
 
 -- a fault is what it reports
 report_is : (file : Source) (fault : TextFault) (kind place : ℕ) → Reports file fault kind place → fault ≡ report file kind place []
@@ -22,37 +25,67 @@ report_is file fault kind place is =
 same_tree : (bytes : List ℕ) (s t : Tree) → IsText bytes s → IsText bytes t → s ≡ t
 same_tree bytes s t is also = one_tree bytes s t is.spelled also.spelled
 
--- a text that spells a tree has no fault of its bytes and parentheses
+-- a first fault of the bytes and their parentheses is some fault, and a text that spells a tree has none
 no_fault : (bytes : List ℕ) (tree : Tree) (kind place : ℕ) → IsText bytes tree → IsFirstFault bytes kind place → ⊥
 no_fault bytes tree kind place is (inl first) = is.good_bytes kind place first.is
 no_fault bytes tree kind place is (inr first) = is.good_tree kind place first.1.is
 
-module _ {A : Type 0} (form : Tree → Option A) (bytes : List ℕ) where
-  same_form : (s t : Tree) → IsText bytes s → IsText bytes t → form s ≡ form t
-  same_form s t is also = ap form (same_tree bytes s t is also)
+module _ {A : Type 0} (form : Tree → Judged A) (plain : Tree → A → Bool) (bytes : List ℕ) where
+  good_is : (s t : Tree) (x y : A) → IsText bytes s → IsText bytes t → form s ≡ good x → form t ≡ good y → x ≡ y
+  good_is s t x y is also first second = let same = sym first ∙ ap form (same_tree bytes s t is also) ∙ second in cc (same)
 
-  pub one_syntax : (x y : A) → IsSpelled form bytes x → IsSpelled form bytes y → x ≡ y
-  one_syntax x y is also = cc (same_form is.tree also.tree is.text also.text, is.is, also.is)
+  pub one_syntax : (x y : A) → IsSpelled form plain bytes x → IsSpelled form plain bytes y → x ≡ y
+  one_syntax x y is also = good_is is.tree also.tree x y is.text also.text is.is also.is
 
-  pub fault_not : (file : Source) (fault : TextFault) (x : A) → IsFault form file bytes fault → IsSpelled form bytes x → ⊥
+  -- a good tree has no fault of its shape
+  not_misshapen : (s t : Tree) (x : A) (f : Fault) → IsText bytes s → IsText bytes t → form s ≡ good x → noted None (form t) ≡ Some f → ⊥
+  not_misshapen s t x f is also first second =
+      let none : noted None (form t) ≡ None = ap (noted None) (sym (ap form (same_tree bytes s t is also)) ∙ first) ∙ noted-good None x in
+      cc (none, second)
+
+  pub fault_not : (file : Source) (fault : TextFault) (x : A) → IsFault form plain file bytes fault → IsSpelled form plain bytes x → ⊥
   fault_not file fault x (inl unread) is = no_fault bytes is.tree unread.kind unread.place is.text unread.first
-  fault_not file fault x (inr other) is = cc (same_form is.tree other.tree is.text other.text, is.is, other.other)
+  fault_not file fault x (inr (inl shape)) is = not_misshapen is.tree shape.tree x shape.of is.text shape.text is.is shape.first
+  fault_not file fault x (inr (inr other)) is =
+      let same = same_tree bytes is.tree other.tree is.text other.text in
+      let syntax = good_is is.tree other.tree x other.syntax is.text other.text is.is other.has in
+      let plain_is = subst (λ (t : Tree). plain t other.syntax ≡ true) same (subst (λ (y : A). plain is.tree y ≡ true) syntax is.propositional) in
+      cc (plain_is, other.other)
 
-  pub one_fault : (file : Source) (f g : TextFault) → IsFault form file bytes f → IsFault form file bytes g → f ≡ g
+  same_report : (file : Source) (f g : Fault) → f ≡ g → report file f.kind f.place f.word ≡ report file g.kind g.place g.word
+  same_report file f g same = ap (λ (h : Fault). report file h.kind h.place h.word) same
+
+  pub one_fault : (file : Source) (f g : TextFault) → IsFault form plain file bytes f → IsFault form plain file bytes g → f ≡ g
   one_fault file f g (inl is) (inl also) =
       let same = one_first_fault bytes is.kind is.place also.kind also.place is.first also.first in
       is.is ∙ ap (λ (n : ℕ). report file n is.place []) same.0 ∙ ap (λ (n : ℕ). report file also.kind n []) same.1 ∙ sym also.is
-  one_fault file f g (inl is) (inr also) = absurd (no_fault bytes also.tree is.kind is.place also.text is.first)
-  one_fault file f g (inr is) (inl also) = absurd (no_fault bytes is.tree also.kind also.place is.text also.first)
-  one_fault file f g (inr is) (inr also) = is.is ∙ sym also.is
+  one_fault file f g (inl is) (inr (inl also)) = absurd (no_fault bytes also.tree is.kind is.place also.text is.first)
+  one_fault file f g (inl is) (inr (inr also)) = absurd (no_fault bytes also.tree is.kind is.place also.text is.first)
+  one_fault file f g (inr (inl is)) (inl also) = absurd (no_fault bytes is.tree also.kind also.place is.text also.first)
+  one_fault file f g (inr (inl is)) (inr (inl also)) =
+      let same = sym is.first ∙ ap (λ (t : Tree). noted None (form t)) (same_tree bytes is.tree also.tree is.text also.text) ∙ also.first in
+      let faults : is.of ≡ also.of = cc (same) in
+      is.is ∙ same_report file is.of also.of faults ∙ sym also.is
+  one_fault file f g (inr (inl is)) (inr (inr also)) = absurd (not_misshapen also.tree is.tree also.syntax is.of also.text is.text also.has is.first)
+  one_fault file f g (inr (inr is)) (inl also) = absurd (no_fault bytes is.tree also.kind also.place is.text also.first)
+  one_fault file f g (inr (inr is)) (inr (inl also)) = absurd (not_misshapen is.tree also.tree is.syntax also.of is.text also.text is.has also.first)
+  one_fault file f g (inr (inr is)) (inr (inr also)) = is.is ∙ sym also.is
 
   -- the tree isn't read
-  pub unread : (file : Source) (e : TextRefusal) → Reads file bytes (Err e) → ReadsText form file bytes (Err e)
+  pub unread : (file : Source) (e : TextRefusal) → Reads file bytes (Err e) → ReadsText form plain file bytes (Err e)
   unread file (refusal.Fault fault) is = inl (record { kind = is.0; place = is.1; first = is.2; is = report_is file fault is.0 is.1 is.3 })
   unread file refusal.Memory is = tt
 
-  -- the tree is read, and its syntax or not
-  pub read : (file : Source) (tree : Tree) (r : Result A TextRefusal) → IsText bytes tree → ReadsTree file (form tree) r → ReadsText form file bytes r
-  read file tree (Ok syntax) text is = record { tree = tree; text = text; is = is }
-  read file tree (Err (refusal.Fault fault)) text is = inr (record { tree = tree; text = text; other = is.1; is = is.0 })
-  read file tree (Err refusal.Memory) text is = tt
+  -- the tree is read, and isn't of the form
+  pub misshapen : (file : Source) (tree : Tree) (e : TextRefusal) → IsText bytes tree → RefusesBy file (form tree) e → ReadsText form plain file bytes (Err e)
+  misshapen file tree (refusal.Fault fault) text is = inr (inl (record { tree = tree; text = text; of = is.0; first = is.1; is = is.2 }))
+  misshapen file tree refusal.Memory text is = tt
+
+  -- it is of the form, and its syntax propositional or not
+  pub spelled : (file : Source) (tree : Tree) (syntax : A) (b : Bool) → IsText bytes tree → form tree ≡ good syntax → b ≡ plain tree syntax → b ≡ true → ReadsText form plain file bytes (Ok syntax)
+  spelled file tree syntax b text is same holds = record { tree = tree; text = text; is = is; propositional = sym same ∙ holds }
+
+  pub other : (file : Source) (tree : Tree) (syntax : A) (b : Bool) (e : TextRefusal) → IsText bytes tree → form tree ≡ good syntax → b ≡ plain tree syntax → b ≡ false → e ≡ refusal.Fault (not_built file) → ReadsText form plain file bytes (Err e)
+  other file tree syntax b e text is same fails refused =
+      let made : ReadsText form plain file bytes (Err (refusal.Fault (not_built file))) = inr (inr (record { tree = tree; text = text; syntax = syntax; has = is; other = sym same ∙ fails; is = refl })) in
+      subst (λ (r : TextRefusal). ReadsText form plain file bytes (Err r)) (sym refused) made

@@ -5,28 +5,29 @@ use Rattle.sexpr.specs.declared.fault.Source.TheVariants as source
 use Rattle.sexpr.specs.declared.fault.TextFault.{TextFault}
 use Rattle.patty_io.specs.Faults.{Rose}
 use Rattle.patty_io.specs.Shelf.{limit, Tells}
-use Rattle.pddl_domain.specs.declared.ast.DomainAst.{DomainAst}
-use Rattle.pddl_domain.specs.Domain.{domain_of}
+use Rattle.pddl_domain.specs.declared.domain.DomainAst.{DomainAst}
+use Rattle.pddl_domain.specs.Domain.{domain_form}
 use Rattle.pddl_problem.specs.declared.ast.ProblemAst.{ProblemAst}
-use Rattle.pddl_problem.specs.Problem.{problem_of}
+use Rattle.pddl_problem.specs.Problem.{problem_form}
 use Rattle.patty.specs.declared.verdict.Verdict.{Verdict}
 use Rattle.patty.specs.declared.verdict.Verdict.TheVariants as verdict
 use Rattle.patty.specs.Start.{holds_at_start}
+use Rattle.patty.specs.Propositional.{is_plain_domain, is_plain_problem}
 use Rattle.patty.specs.Texts.{IsSpelled, IsFault}
 
--- these bytes spell this domain, and this problem, in the thin form
+-- these bytes spell this domain, and this problem, in the propositional form
 abbrev pub IsDomain : List ℕ → DomainAst → Type 0
-IsDomain bytes domain = IsSpelled domain_of bytes domain
+IsDomain bytes domain = IsSpelled domain_form is_plain_domain bytes domain
 
 abbrev pub IsProblem : List ℕ → ProblemAst → Type 0
-IsProblem bytes problem = IsSpelled problem_of bytes problem
+IsProblem bytes problem = IsSpelled problem_form is_plain_problem bytes problem
 
 -- the first fault of a domain's text, and of a problem's
 abbrev pub IsDomainFault : List ℕ → TextFault → Type 0
-IsDomainFault bytes fault = IsFault domain_of source.Domain bytes fault
+IsDomainFault bytes fault = IsFault domain_form is_plain_domain source.Domain bytes fault
 
 abbrev pub IsProblemFault : List ℕ → TextFault → Type 0
-IsProblemFault bytes fault = IsFault problem_of source.Problem bytes fault
+IsProblemFault bytes fault = IsFault problem_form is_plain_problem source.Problem bytes fault
 
 -- two texts spell a domain and a problem, whose goal holds at the start or not
 pub record Says (domain problem : List ℕ) (holds : Bool) : Type 0 where

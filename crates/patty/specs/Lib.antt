@@ -1,4 +1,5 @@
 pub mod Words
+pub mod Propositional
 pub mod Start
 pub mod Texts
 pub mod Cause

@@ -1,24 +1,35 @@
--- What is true at the start (PDDL 2.1): the atoms that `:init` has without `not`, and no other.
-use Rattle.std.specs.Prelude.{ℕ, Bool, not, ◌&&◌, if◌then◌else◌, List, bytes_eq}
+-- What is true at the start (PDDL 2.1): the atoms that `:init` has without `not`, and no other. An atom is its list
+-- of words.
+use Rattle.std.specs.Prelude.{ℕ, Bool, true, false, not, ◌&&◌, if◌then◌else◌, List, [], ◌∷◌, bytes_eq}
 use Rattle.std.specs.List.{list_any, list_all}
-use Rattle.pddl_domain.specs.declared.ast.CondAst.{CondAst}
-use Rattle.pddl_domain.specs.declared.ast.CondAst.TheVariants.{Lit, Same}
+use Rattle.pddl_form.specs.declared.spot.Spot.{Spot}
+use Rattle.pddl_form.specs.declared.condition.CondAst.{CondAst}
+use Rattle.pddl_form.specs.declared.condition.CondAst.TheVariants.{Lit, Same, Compare}
 use Rattle.pddl_problem.specs.declared.ast.InitAst.{InitAst}
-use Rattle.pddl_problem.specs.declared.ast.InitAst.TheVariants.{Put}
+use Rattle.pddl_problem.specs.declared.ast.InitAst.TheVariants.{Put, Value}
 use Rattle.pddl_problem.specs.declared.ast.ProblemAst.{ProblemAst}
 
--- an item gives the atom of this name; the thin form has no arguments
-abbrev pub gives : List ℕ → InitAst → Bool
-gives atom (Put pos name args place) = pos && bytes_eq name.text atom
+-- two lists of the same words
+abbrev pub same_words : List Spot → List Spot → Bool
+same_words [] [] = true
+same_words [] (y ∷ ys) = false
+same_words (x ∷ xs) [] = false
+same_words (x ∷ xs) (y ∷ ys) = bytes_eq x.text y.text && same_words xs ys
 
-abbrev pub is_given : List InitAst → List ℕ → Bool
-is_given init atom = list_any (gives atom) init
+-- an item gives an atom
+abbrev pub gives : Spot → List Spot → InitAst → Bool
+gives name args (Put pos of with place) = pos && (bytes_eq of.text name.text && same_words with args)
+gives name args (Value of with value place) = false
 
--- a leaf of a condition holds
+abbrev pub is_given : List InitAst → Spot → List Spot → Bool
+is_given init name args = list_any (gives name args) init
+
+-- a literal of the goal holds
 abbrev pub holds : List InitAst → CondAst → Bool
-holds init (Lit pos name args) = if pos then is_given init name.text else not (is_given init name.text)
-holds init (Same pos left right) = if pos then bytes_eq left.text right.text else not (bytes_eq left.text right.text)
+holds init (Lit pos name args) = if pos then is_given init name args else not (is_given init name args)
+holds init (Same pos left right) = false
+holds init (Compare rel left right) = false
 
--- each leaf of the goal holds
+-- each literal of the goal holds
 abbrev pub holds_at_start : ProblemAst → Bool
 holds_at_start problem = list_all (holds problem.init) problem.goal

@@ -5,6 +5,8 @@
 
 mod printing;
 mod program;
+mod propositional;
+mod start;
 #[cfg(test)]
 mod tests;
 mod texts;

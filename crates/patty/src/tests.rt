@@ -45,7 +45,12 @@ struct Row {
     output: &'static str,
 }
 
-fn run_of(domain: &'static str, problem: &'static str, status: u8, output: &'static str) -> Row {
+const fn run_of(
+    domain: &'static str,
+    problem: &'static str,
+    status: u8,
+    output: &'static str,
+) -> Row {
     Row {
         words: RIGHT,
         domain,
@@ -124,104 +129,196 @@ fn rows(rt: HostRuntime) -> Result<(), Fail> {
     Ok(())
 }
 
-/// Thin texts in several spellings give 0 or 1. Other texts are refused, each at its first fault, the domain first.
+/// Propositional texts in several spellings give 0 or 1. Other texts are refused, each at its first fault, the domain first.
+const TEXTS: &[(&str, &str, u8, &str)] = &[
+    (
+        DOMAIN,
+        "(define (problem p) (:domain e) (:init (h) (G)) (:goal (g)))",
+        0,
+        PLAN,
+    ),
+    (" \t(DEFINE\r\n(Domain D)(:Predicates))\n", TRUE, 0, PLAN),
+    (
+        "(define (domain d) (:predicates) (:action and :effect (g)))",
+        FALSE,
+        1,
+        REFUTED,
+    ),
+    (
+        DOMAIN,
+        "(define (problem p) (:domain d) (:init (q)(g0)) (:goal (g)))",
+        1,
+        REFUTED,
+    ),
+    (
+        DOMAIN,
+        "; p (\n(define (problem p) (:domain d) (:init (g)) (:goal (g))) ; )",
+        0,
+        PLAN,
+    ),
+    (
+        DOMAIN,
+        "(define (problem p) (:goal (g)) (:init (g)) (:metric x (y)) (:domain d))",
+        0,
+        PLAN,
+    ),
+    (
+        DOMAIN,
+        "(define (problem p) (:domain d) (:init (at l1 l2) (not (g))) (:goal (and (at l1 l2) (not (at l2 l1)) (not (g)))))",
+        0,
+        PLAN,
+    ),
+    (
+        DOMAIN,
+        "(define (problem p) (:domain d) (:init (at l1 l2)) (:goal (and (at l1 l2) (at l1))))",
+        1,
+        REFUTED,
+    ),
+    (
+        DOMAIN,
+        "(define (problem p) (:domain d) (:init (not (g)) (g)) (:goal (g)))",
+        0,
+        PLAN,
+    ),
+    (
+        DOMAIN,
+        "(define (problem p) (:domain d) (:goal ()))",
+        0,
+        PLAN,
+    ),
+    (
+        "(define (domain d) (:predicates (g)) (:action a))",
+        TRUE,
+        0,
+        PLAN,
+    ),
+    (
+        "(define (domain d) (:action a :effect (g) :precondition (g) :parameters (?x)) (:predicates (g)))",
+        TRUE,
+        0,
+        PLAN,
+    ),
+    ("(define (domain d) (:types))", TRUE, 3, DOMAIN_FAULT),
+    ("(define (domain d) (:types))", "", 3, DOMAIN_FAULT),
+    (
+        "(define (domain d) (:predicates (g ?x - t)))",
+        TRUE,
+        3,
+        DOMAIN_FAULT,
+    ),
+    (
+        "(define (domain d) (:action a :precondition (= ?x ?y)))",
+        TRUE,
+        3,
+        DOMAIN_FAULT,
+    ),
+    (
+        "(define (domain d) (:action a :effect (increase (x) 1)))",
+        TRUE,
+        3,
+        DOMAIN_FAULT,
+    ),
+    (
+        DOMAIN,
+        "(define (problem p) (:domain d) (:objects k - t) (:goal (g)))",
+        3,
+        PROBLEM_FAULT,
+    ),
+    (
+        DOMAIN,
+        "(define (problem p) (:domain d) (:goal (< (x) 1)))",
+        3,
+        PROBLEM_FAULT,
+    ),
+    (
+        DOMAIN,
+        "(define (problem p) (:domain d) (:init (= (x) 1)) (:goal (g)))",
+        3,
+        PROBLEM_FAULT,
+    ),
+    (
+        DOMAIN,
+        "(define (problem p) (:domain d) (:init (and)) (:goal (g)))",
+        3,
+        "fault problem 4 39\n",
+    ),
+    (
+        DOMAIN,
+        "(define (problem 7) (:domain d) (:init (and)) (:goal (g)))",
+        3,
+        "fault problem 4 17\n",
+    ),
+    (
+        DOMAIN,
+        "(define (problem p) (:domain d) (:init (g)))",
+        3,
+        "fault problem 4 43\n",
+    ),
+    (
+        DOMAIN,
+        "(define (problem p) (:domain d) (:init (= (x) 1000000000000000000000000000000000000000)) (:goal (g)))",
+        3,
+        "fault problem 10 46\n",
+    ),
+    (
+        DOMAIN,
+        "(define (problem p) (:domain d) (:goal (or (g))))",
+        3,
+        "fault problem 5 40 or\n",
+    ),
+    (
+        DOMAIN,
+        "(define (problem p) (:domain d) (:init (g)) (:goal (g))",
+        3,
+        "fault problem 2 55\n",
+    ),
+    (DOMAIN, "", 3, "fault problem 2 0\n"),
+    (
+        DOMAIN,
+        "(define (problem p) (:domain d) (:init (g)",
+        3,
+        "fault problem 2 42\n",
+    ),
+    ("(define (domain d\x07", "", 3, "fault domain 1 17\n"),
+    (DEEP, "", 3, "fault domain 3 200\n"),
+    (
+        "(define (domain d) (:predicates (not)))",
+        TRUE,
+        3,
+        "fault domain 4 32\n",
+    ),
+    (
+        "(define (domain 1d) (:predicates (g)))",
+        TRUE,
+        3,
+        "fault domain 4 16\n",
+    ),
+    (
+        "(define (domain d) (:predicates g))",
+        TRUE,
+        3,
+        "fault domain 4 32\n",
+    ),
+    (
+        "(define (domain d) (:durative-action a))",
+        TRUE,
+        3,
+        "fault domain 5 20 :durative-action\n",
+    ),
+    (
+        "(define (domain d) (:predicates (g)))(define)",
+        TRUE,
+        3,
+        "fault domain 2 37\n",
+    ),
+];
+
 #[test]
-fn thin_texts(rt: HostRuntime) -> Result<(), Fail> {
-    let all = [
-        run_of(
-            DOMAIN,
-            "(define (problem p) (:domain e) (:init (h) (G)) (:goal (g)))",
-            0,
-            PLAN,
-        ),
-        run_of(" \t(DEFINE\r\n(Domain D)(:Predicates))\n", TRUE, 0, PLAN),
-        run_of(
-            "(define (domain d) (:predicates) (:action and :effect (g)))",
-            FALSE,
-            1,
-            REFUTED,
-        ),
-        run_of(
-            DOMAIN,
-            "(define (problem p) (:domain d) (:init (q)(g0)) (:goal (g)))",
-            1,
-            REFUTED,
-        ),
-        run_of(
-            DOMAIN,
-            "(define (problem p) (:domain d) (:init (and)) (:goal (g)))",
-            3,
-            PROBLEM_FAULT,
-        ),
-        run_of(
-            DOMAIN,
-            "; p (\n(define (problem p) (:domain d) (:init (g)) (:goal (g))) ; )",
-            0,
-            PLAN,
-        ),
-        run_of(
-            DOMAIN,
-            "(define (problem p) (:init (g)) (:domain d) (:goal (g)))",
-            3,
-            PROBLEM_FAULT,
-        ),
-        run_of(
-            DOMAIN,
-            "(define (problem p) (:domain d) (:init (g)))",
-            3,
-            PROBLEM_FAULT,
-        ),
-        run_of(
-            DOMAIN,
-            "(define (problem p) (:domain d) (:init (g)) (:goal (g))",
-            3,
-            "fault problem 2 55\n",
-        ),
-        run_of(DOMAIN, "", 3, "fault problem 2 0\n"),
-        run_of(
-            DOMAIN,
-            "(define (problem p) (:domain d) (:init (g)",
-            3,
-            "fault problem 2 42\n",
-        ),
-        run_of("(define (domain d))", "", 3, DOMAIN_FAULT),
-        run_of("(define (domain d\x07", "", 3, "fault domain 1 17\n"),
-        run_of(DEEP, "", 3, "fault domain 3 200\n"),
-        run_of(
-            "(define (domain d) (:predicates (not)))",
-            TRUE,
-            3,
-            DOMAIN_FAULT,
-        ),
-        run_of(
-            "(define (domain 1d) (:predicates (g)))",
-            TRUE,
-            3,
-            DOMAIN_FAULT,
-        ),
-        run_of(
-            "(define (domain d) (:predicates (g)) (:action a))",
-            TRUE,
-            3,
-            DOMAIN_FAULT,
-        ),
-        run_of(
-            "(define (domain d) (:predicates (g)) (:action a :effect (g) :precondition (g)))",
-            TRUE,
-            3,
-            DOMAIN_FAULT,
-        ),
-        run_of(
-            "(define (domain d) (:predicates (g)))(define)",
-            TRUE,
-            3,
-            "fault domain 2 37\n",
-        ),
-    ];
-    for row in &all {
-        let (status, output) = outcome(rt.alloc(), row)?;
-        assert_eq!(rt; status, row.status, "{} {}", row.domain, row.problem);
-        assert_eq!(rt; output.as_slice(), row.output.as_bytes());
+fn texts(rt: HostRuntime) -> Result<(), Fail> {
+    for (domain, problem, wanted, line) in TEXTS {
+        let (status, output) = outcome(rt.alloc(), &run_of(domain, problem, *wanted, line))?;
+        assert_eq!(rt; status, *wanted, "{domain} {problem}");
+        assert_eq!(rt; output.as_slice(), line.as_bytes(), "{domain} {problem}");
     }
     Ok(())
 }

@@ -1,66 +1,65 @@
-//! What two texts come to: the first fault, or whether the goal is true at the start.
+//! What two texts come to: the first fault, or whether the goal holds at the start.
 ghost use Rattle.std.specs.Prelude.{◌≡◌, ◌≤◌, length};
-ghost use Rattle.patty.specs.Start.{is_given as is_given_spec, holds as holds_spec, holds_at_start as holds_at_start_spec};
 ghost use Rattle.sexpr.specs.declared.fault.Source.TheVariants as source;
-ghost use Rattle.pddl_domain.specs.Domain.{domain_of};
-ghost use Rattle.pddl_problem.specs.Problem.{problem_of};
-ghost use Rattle.patty.specs.Texts.{ReadsText};
+ghost use Rattle.pddl_domain.specs.Domain.{domain_form};
+ghost use Rattle.pddl_problem.specs.Problem.{problem_form};
+ghost use Rattle.patty.specs.Propositional.{is_plain_domain as is_plain_domain_spec, is_plain_problem as is_plain_problem_spec};
+ghost use Rattle.patty.specs.Texts.{ReadsText, not_built as not_built_spec};
 ghost use Rattle.patty.specs.Cause.{Decides};
 
 use crate::Verdict;
-use pddl_domain::{CondAst, DomainAst, read_domain};
-use pddl_problem::{InitAst, ProblemAst, read_problem};
-use sexpr::{Source, TextRefusal, read};
+use crate::propositional::{is_plain_domain, is_plain_problem};
+use crate::start::holds_at_start;
+use pddl_domain::{DomainAst, read_domain};
+use pddl_problem::{ProblemAst, read_problem};
+use sexpr::{Source, TextFault, TextRefusal, read};
 use std::alloc::Global;
 
-fn is_given(init: &[InitAst], atom: &str) -> bool
-    ensures { result ≡ is_given_spec init.now atom.now }
-{
-    init.iter().any(|InitAst::Put { pos, name, .. }| *pos && name.text.as_str() == atom)
-}
+/// The kind of a text that is well formed and not propositional.
+const NOT_BUILT: u8 = 23;
 
-fn holds(init: &[InitAst], cond: &CondAst) -> bool
-    ensures { result ≡ holds_spec init.now cond.now }
+fn not_built(alloc: Global, file: Source) -> TextRefusal
+    ensures { result ≡ TextRefusal.Fault (not_built_spec file) }
 {
-    match cond {
-        CondAst::Lit { pos, name, .. } => {
-            let given = is_given(init, name.text.as_str());
-            if *pos { given } else { !given }
-        }
-        CondAst::Same { pos, left, right } => {
-            let same = left.text.as_str() == right.text.as_str();
-            if *pos { same } else { !same }
-        }
-    }
-}
-
-fn holds_at_start(problem: &ProblemAst) -> bool
-    ensures { result ≡ holds_at_start_spec problem.now }
-{
-    let init = problem.init.as_slice();
-    problem.goal.as_slice().iter().all(|cond| holds(init, cond))
+    TextRefusal::Fault(TextFault::new(alloc, file, NOT_BUILT, 0))
 }
 
 fn domain_in(alloc: Global, bytes: &[u8]) -> Result<DomainAst, TextRefusal>
     requires { length bytes.now ≤ 67108864 }
-    ensures { ReadsText domain_of source.Domain bytes.now result }
+    ensures { ReadsText domain_form is_plain_domain_spec source.Domain bytes.now result }
 {
     let tree = match read(alloc, Source::Domain, bytes) {
         Ok(tree) => tree,
         Err(refusal) => return Err(refusal),
     };
-    read_domain(alloc, &tree)
+    let domain = match read_domain(alloc, &tree) {
+        Ok(domain) => domain,
+        Err(refusal) => return Err(refusal),
+    };
+    if is_plain_domain(&tree, &domain) {
+        Ok(domain)
+    } else {
+        Err(not_built(alloc, Source::Domain))
+    }
 }
 
 fn problem_in(alloc: Global, bytes: &[u8]) -> Result<ProblemAst, TextRefusal>
     requires { length bytes.now ≤ 67108864 }
-    ensures { ReadsText problem_of source.Problem bytes.now result }
+    ensures { ReadsText problem_form is_plain_problem_spec source.Problem bytes.now result }
 {
     let tree = match read(alloc, Source::Problem, bytes) {
         Ok(tree) => tree,
         Err(refusal) => return Err(refusal),
     };
-    read_problem(alloc, &tree)
+    let problem = match read_problem(alloc, &tree) {
+        Ok(problem) => problem,
+        Err(refusal) => return Err(refusal),
+    };
+    if is_plain_problem(&problem) {
+        Ok(problem)
+    } else {
+        Err(not_built(alloc, Source::Problem))
+    }
 }
 
 /// What two texts come to. The domain is judged first.

@@ -1,1 +1,5 @@
-pub mod Gathered
+pub mod Keywords
+pub mod Effects
+pub mod Functions
+pub mod Actions
+pub mod Domains

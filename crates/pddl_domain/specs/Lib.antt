@@ -1,5 +1,5 @@
-pub mod Reading
-pub mod Names
-pub mod Parts
+pub mod Effect
+pub mod Heads
 pub mod Action
 pub mod Domain
+pub mod inside

@@ -1,63 +1,167 @@
-//! The domain that a tree spells.
-ghost use Rattle.pddl_domain.specs.Reading.{Gives};
-ghost use Rattle.pddl_domain.specs.Domain.{predicates as predicates_spec, domain_sections, domain_of};
-ghost use Rattle.pddl_domain.specs.Reading.{ReadsTree};
-ghost use Rattle.sexpr.specs.declared.fault.Source.TheVariants as source;
+//! A domain. Begin with `read_domain`, then `read_parts`, which reads each section by a reader of its own.
+//!
+//! A section is looked for by its word, so the contents of one that isn't known or stands twice are left unread.
+ghost use Rattle.std.specs.Prelude.{◌≡◌};
+ghost use Rattle.sexpr.specs.declared.tree.Tree.{Tree};
+ghost use Rattle.sexpr.specs.declared.fault.Source.TheVariants.{Domain};
+ghost use Rattle.pddl_form.specs.Concluded.{Answers};
+ghost use Rattle.pddl_form.specs.Laws.{HasOneSyntax};
+ghost use Rattle.pddl_form.specs.Reading.{Reads};
+ghost use Rattle.pddl_form.specs.SectionParts.{parts_of};
+ghost use Rattle.pddl_domain.specs.Domain as domain;
+ghost use Rattle.pddl_domain.specs.inside.Made.{whole_made};
 
-use crate::action::actions;
-use crate::ast::{DomainAst, Head};
-use crate::parts::{atom, named, section};
-use crate::stop::{Stop, refusal};
+use crate::action::{ActionAst, read_action};
+use crate::head::{Head, read_functions, read_predicates};
+use pddl_form::{
+    Definition, FirstFault, Sort, Spot, Typed, add, conclude, find_section, open_definition,
+    read_requirements, read_section_words, read_title, read_typed_list, section_behind,
+};
 use sexpr::{Source, TextRefusal, Tree};
 use sqlite_items::Items;
-use std::alloc::Global;
+use std::alloc::{AllocError, Global};
 
-fn predicates(alloc: Global, trees: &[Tree]) -> Result<Items<Head>, Stop>
-    ensures { Gives (λ s. s) result (predicates_spec trees.now) }
+/// A domain as it is written.
+#[derive(Debug, Drop)]
+pub struct DomainAst {
+    pub name: Spot,
+    pub types: Items<Typed>,
+    pub constants: Items<Typed>,
+    pub preds: Items<Head>,
+    pub funcs: Items<Head>,
+    pub actions: Items<ActionAst>,
+}
+
+/// A section of names.
+#[tactic(auto, unfolding(pddl_form::specs::Judged::noted))]
+fn read_names(
+    alloc: Global,
+    word: &str,
+    sections: &[Tree],
+    faults: &mut FirstFault,
+) -> Result<Option<Items<Typed>>, AllocError>
+    ensures { Reads (domain.listed domain.names_in word.now sections.now) faults.old faults.new result }
 {
-    let mut found = Items::new(alloc);
-    for tree in trees {
-        let name = atom(alloc, tree)?;
-        let params = Items::new(alloc);
-        found.push(Head { name, params })?;
+    match find_section(sections, word) {
+        Some(section) => read_typed_list(alloc, Sort::Name, section.end, section.parts, faults),
+        None => Ok(Some(Items::new(alloc))),
+    }
+}
+
+#[tactic(auto, unfolding(crate::specs::Domain::predicates_section, pddl_form::specs::Judged::noted))]
+fn read_predicates_section(
+    alloc: Global,
+    sections: &[Tree],
+    faults: &mut FirstFault,
+) -> Result<Option<Items<Head>>, AllocError>
+    ensures { Reads (domain.predicates_section sections.now) faults.old faults.new result }
+{
+    match find_section(sections, ":predicates") {
+        Some(section) => read_predicates(alloc, section.parts, faults),
+        None => Ok(Some(Items::new(alloc))),
+    }
+}
+
+#[tactic(auto, unfolding(crate::specs::Domain::functions_section, pddl_form::specs::Judged::noted))]
+fn read_functions_section(
+    alloc: Global,
+    sections: &[Tree],
+    faults: &mut FirstFault,
+) -> Result<Option<Items<Head>>, AllocError>
+    ensures { Reads (domain.functions_section sections.now) faults.old faults.new result }
+{
+    match find_section(sections, ":functions") {
+        Some(section) => read_functions(alloc, section.end, section.parts, faults),
+        None => Ok(Some(Items::new(alloc))),
+    }
+}
+
+/// All actions.
+#[tactic(auto, unfolding(crate::specs::Domain::actions_section))]
+fn read_actions(
+    alloc: Global,
+    sections: &[Tree],
+    faults: &mut FirstFault,
+) -> Result<Option<Items<ActionAst>>, AllocError>
+    ensures { Reads (domain.actions_section sections.now) faults.old faults.new result }
+{
+    let mut found = Some(Items::new(alloc));
+    for tree in sections {
+        let Some(section) = section_behind(tree, ":action") else {
+            continue;
+        };
+        let one = read_action(alloc, section.end, section.parts, faults)?;
+        add(&mut found, one)?;
     }
     Ok(found)
 }
 
-fn sections(alloc: Global, trees: &[Tree]) -> Result<DomainAst, Stop>
-    ensures { Gives (λ p. p) result (domain_sections trees.now) }
+/// The domain, where all its parts are there.
+fn make_domain(
+    name: Option<Spot>,
+    types: Option<Items<Typed>>,
+    constants: Option<Items<Typed>>,
+    preds: Option<Items<Head>>,
+    funcs: Option<Items<Head>>,
+    actions: Option<Items<ActionAst>>,
+) -> Option<DomainAst>
+    ensures { result ≡ whole_made name types constants preds funcs actions }
 {
-    let [head, declared, rest @ ..] = trees else {
-        return Err(Stop::Fault);
-    };
-    let name = named(alloc, "domain", head)?;
-    let declared = section(":predicates", declared)?;
-    let preds = predicates(alloc, declared)?;
-    let actions = actions(alloc, rest)?;
-    Ok(DomainAst {
-        name,
-        types: Items::new(alloc),
-        constants: Items::new(alloc),
-        preds,
-        funcs: Items::new(alloc),
-        actions,
+    Some(DomainAst {
+        name: name?,
+        types: types?,
+        constants: constants?,
+        preds: preds?,
+        funcs: funcs?,
+        actions: actions?,
     })
 }
 
-#[tactic(auto, unfolding(crate::specs::Domain::domain_of))]
-fn domain_in(alloc: Global, tree: &Tree) -> Result<DomainAst, Stop>
-    ensures { Gives (λ p. p) result (domain_of tree.now) }
+fn read_parts(
+    alloc: Global,
+    definition: &Definition,
+    faults: &mut FirstFault,
+) -> Result<Option<DomainAst>, AllocError>
+    ensures { Reads (domain.domain_parts (parts_of definition.now)) faults.old faults.new result }
 {
-    let rest = section("define", tree)?;
-    sections(alloc, rest)
+    let sections = definition.sections;
+    let known = read_section_words(alloc, Source::Domain, sections, faults)?;
+    let requirements = read_requirements(alloc, sections, faults)?;
+    let name = read_title(alloc, "domain", definition.title, faults)?;
+    let types = read_names(alloc, ":types", sections, faults)?;
+    let constants = read_names(alloc, ":constants", sections, faults)?;
+    let preds = read_predicates_section(alloc, sections, faults)?;
+    let funcs = read_functions_section(alloc, sections, faults)?;
+    let actions = read_actions(alloc, sections, faults)?;
+    let domain = make_domain(name, types, constants, preds, funcs, actions);
+    Ok(known.and(requirements).and(domain))
 }
 
-/// The domain that a tree spells. A tree that isn't of the thin form is refused with the kind 23.
-pub fn read_domain(alloc: Global, tree: &Tree) -> Result<DomainAst, TextRefusal>
-    ensures { ReadsTree source.Domain (domain_of tree.now) result }
+fn read_form(
+    alloc: Global,
+    tree: &Tree,
+    faults: &mut FirstFault,
+) -> Result<Option<DomainAst>, AllocError>
+    ensures { Reads (domain.domain_form tree.now) faults.old faults.new result }
 {
-    match domain_in(alloc, tree) {
-        Ok(domain) => Ok(domain),
-        Err(stop) => Err(refusal(alloc, Source::Domain, stop)),
+    let Some(definition) = open_definition(alloc, tree, faults) else {
+        return Ok(None);
+    };
+    read_parts(alloc, &definition, faults)
+}
+
+/// The domain that a tree spells, or else the first fault of its shape.
+pub fn read_domain(alloc: Global, tree: &Tree) -> Result<DomainAst, TextRefusal>
+    ensures { Answers Domain (domain.domain_form tree.now) result }
+{
+    let mut faults = FirstFault::new();
+    match read_form(alloc, tree, &mut faults) {
+        Ok(made) => conclude(Source::Domain, made, faults),
+        Err(_) => Err(TextRefusal::Memory),
     }
 }
+
+/// A tree without a fault has one syntax as a domain.
+pub fn one_domain()
+    ensures { (tree : Tree) → HasOneSyntax (domain.domain_form tree) }
+{}

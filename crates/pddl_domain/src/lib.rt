@@ -1,17 +1,19 @@
-//! A domain as it is written: from a tree of words and lists to the domain's syntax.
+//! A domain as it is written: from a tree of words and lists to the domain's syntax, or the first fault of its shape.
 //!
-//! Begin with `read_domain`. Only the thin form is read so far: propositional texts without parameters. The parts
-//! that a problem's text has too, as names and atoms, are exported for the reader of problems.
+//! Begin with `read_domain`. Its sections are read one by one, each by a reader of its own that goes over all parts of
+//! its tree and tells a `FirstFault` what it finds. What domain and problem share stands in `pddl_form`.
 #![tactic(auto)]
 
 mod action;
-mod ast;
 mod domain;
-mod names;
-mod parts;
-mod stop;
+mod effect;
+mod head;
 
-pub use ast::{ActionAst, CondAst, DomainAst, EffAst, Head, Spot, Typed};
-pub use domain::read_domain;
-pub use parts::{atom, name, named, only, section};
-pub use stop::{Stop, refusal};
+pub use action::{ActionAst, action_keys_rise};
+pub use domain::{DomainAst, one_domain, read_domain};
+pub use effect::{EffAst, effect_heads_rise};
+pub use head::Head;
+pub use pddl_form::{CondAst, ExprAst, Spot, Typed};
+
+#[cfg(test)]
+mod tests;

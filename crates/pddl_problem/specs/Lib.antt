@@ -1,1 +1,3 @@
+pub mod Init
 pub mod Problem
+pub mod Made

@@ -1,5 +1,6 @@
 //! The syntax of a problem, with places.
-use pddl_domain::{CondAst, Spot, Typed};
+use frac128::Frac;
+use pddl_form::{CondAst, Spot, Typed};
 use sqlite_items::Items;
 
 /// An item of the initial state, with the place of its first byte.
@@ -10,6 +11,13 @@ pub enum InitAst {
         pos: bool,
         name: Spot,
         args: Items<Spot>,
+        place: u32,
+    },
+    /// The value of a function at the start.
+    Value {
+        name: Spot,
+        args: Items<Spot>,
+        value: Frac,
         place: u32,
     },
 }

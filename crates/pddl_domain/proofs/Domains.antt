@@ -1,0 +1,42 @@
+-- A domain is read where its parts are.
+use Rattle.std.proofs.Common.{◌≡◌, List, Option, Some, None, refl, sym, ◌∙◌, ap, subst}
+use Rattle.std.specs.Option.{option_and}
+use Rattle.pddl_form.specs.declared.fault.Fault.{Fault}
+use Rattle.pddl_form.specs.declared.spot.Spot.{Spot}
+use Rattle.pddl_form.specs.declared.typed.Typed.{Typed}
+use Rattle.pddl_form.specs.Gather.{option_both}
+use Rattle.pddl_form.specs.Judged.{Judged, both}
+use Rattle.pddl_form.specs.Reading.{IsRead}
+use Rattle.pddl_form.specs.Sections.{Tested, second}
+use Rattle.pddl_form.proofs.Loops.{read_mapped, read_both}
+use Rattle.pddl_domain.specs.declared.action.ActionAst.{ActionAst}
+use Rattle.pddl_domain.specs.declared.head.Head.{Head}
+use Rattle.pddl_domain.specs.Domain.{whole, domain_of, apply}
+use Rattle.pddl_domain.specs.inside.Made.{whole_made}
+
+-- the six parts, one behind another
+pub whole_read : (name : Judged Spot) (types constants : Judged (List Typed)) (preds funcs : Judged (List Head)) (actions : Judged (List ActionAst))
+    (f0 f1 f2 f3 f4 f5 f6 : Option Fault) (n : Option Spot) (t k : Option (List Typed)) (p f : Option (List Head)) (a : Option (List ActionAst))
+    → IsRead name f0 f1 n → IsRead types f1 f2 t → IsRead constants f2 f3 k → IsRead preds f3 f4 p → IsRead funcs f4 f5 f → IsRead actions f5 f6 a
+    → IsRead (whole name types constants preds funcs actions) f0 f6 (whole_made n t k p f a)
+unfolding whole
+whole_read name types constants preds funcs actions f0 f1 f2 f3 f4 f5 f6 n t k p f a hn ht hk hp hf ha =
+    read_both apply _ actions f0 f5 f6 _ a
+    (read_both apply _ funcs f0 f4 f5 _ f
+    (read_both apply _ preds f0 f3 f4 _ p
+    (read_both apply _ constants f0 f2 f3 _ k
+    (read_both apply _ types f0 f1 f2 _ t (read_mapped domain_of name f0 f1 n hn) ht) hk) hp) hf) ha
+
+and-both : {A : Type 0} (x y : Option (Unit {0})) (z : Option A) → option_both second x (option_both second y z) ≡ option_and (option_and x y) z
+and-both None y z = refl
+and-both (Some u) None z = refl
+and-both (Some u) (Some v) None = refl
+and-both (Some u) (Some v) (Some a) = refl
+
+-- two tests in front
+pub tested_read : {A : Type 0} (j k : Tested) (w : Judged A) (f0 f1 f2 f3 : Option Fault) (x y both_pass : Option (Unit {0})) (z made r : Option A)
+    → IsRead j f0 f1 x → IsRead k f1 f2 y → IsRead w f2 f3 z → both_pass ≡ option_and x y → made ≡ z → r ≡ option_and both_pass made → IsRead (both second j (both second k w)) f0 f3 r
+tested_read {A = A} j k w f0 f1 f2 f3 x y both_pass z made r hj hk hw pass is_made is =
+    let same : option_and both_pass made ≡ option_and (option_and x y) z = ap (λ (o : Option (Unit {0})). option_and o made) pass ∙ ap (option_and (option_and x y)) is_made in
+    subst (λ (o : Option A). IsRead (both second j (both second k w)) f0 f3 o) (and-both x y z ∙ sym (is ∙ same))
+    (read_both second j (both second k w) f0 f1 f3 x (option_both second y z) hj (read_both second k w f1 f2 f3 y z hk hw))

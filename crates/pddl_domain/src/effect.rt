@@ -1,0 +1,303 @@
+//! Effects, each as the list of its leaves in text order. Begin with `read_effect`, which calls itself on the parts of
+//! an `and`.
+ghost use Rattle.std.specs.Prelude.{◌≡◌, IfOk, map, true, false};
+ghost use Rattle.kw_table.specs.Table.{Rises};
+ghost use Rattle.pddl_form.specs.Gather.{joined};
+ghost use Rattle.pddl_form.specs.Judged.{each, mapped};
+ghost use Rattle.pddl_form.specs.Reading.{Reads};
+ghost use Rattle.pddl_form.specs.Calls.{arguments, call_form};
+ghost use Rattle.pddl_form.specs.Condition.{undone};
+ghost use Rattle.pddl_form.specs.Expression.{expression_form};
+ghost use Rattle.pddl_form.specs.Parts.{one_part, two_parts};
+ghost use Rattle.pddl_form.specs.Typed.{only};
+ghost use Rattle.pddl_form.specs.declared.names.Sort.TheVariants.{Term};
+ghost use Rattle.pddl_domain.specs.Effect as effect;
+
+use kw_table::{Table, rows};
+use pddl_form::{
+    Call, ExprAst, FirstFault, Sort, Spot, add_all, is_symbol, make_spot, note_unread, pair,
+    parted, provided, read_arguments, read_call, read_expression, read_undone, word,
+};
+use sexpr::Tree;
+use sqlite_items::Items;
+use std::alloc::{AllocError, Global};
+
+/// A leaf of an effect.
+#[derive(Debug, Drop)]
+pub enum EffAst {
+    /// An atom that becomes true, or where `pos` is false becomes false.
+    Put {
+        pos: bool,
+        name: Spot,
+        args: Items<Spot>,
+    },
+    /// A function that changes.
+    Change {
+        op: Spot,
+        name: Spot,
+        args: Items<Spot>,
+        by: ExprAst,
+    },
+}
+
+/// What the head of a list makes of it.
+#[derive(Clone, Copy, Debug, PartialEq, Eq)]
+pub enum EffectHead {
+    And,
+    Not,
+    Change,
+    /// A head of effects that aren't read.
+    Unread,
+    Predicate,
+    Other,
+}
+
+const HEADS: Table<9> = Table {
+    words: [
+        "and",
+        "assign",
+        "decrease",
+        "forall",
+        "increase",
+        "not",
+        "scale-down",
+        "scale-up",
+        "when",
+    ],
+};
+
+/// The heads of effects stand in byte order.
+pub fn effect_heads_rise()
+    ensures { Rises (map (λ w. w.now) HEADS.words) }
+{}
+
+/// The head of an atom, or of no effect.
+fn other_head(text: &str) -> EffectHead
+    ensures { result ≡ effect.other_effect_head text.now }
+{
+    if is_symbol(text) {
+        EffectHead::Predicate
+    } else {
+        EffectHead::Other
+    }
+}
+
+#[tactic(auto, using(crate::proofs::Keywords::effect_head_rows))]
+fn find_head(text: &str) -> EffectHead
+    ensures { result ≡ effect.effect_head_of text.now }
+{
+    rows! {
+        HEADS, text.as_bytes();
+        "and" => EffectHead::And,
+        "assign" => EffectHead::Change,
+        "decrease" => EffectHead::Change,
+        "forall" => EffectHead::Unread,
+        "increase" => EffectHead::Change,
+        "not" => EffectHead::Not,
+        "scale-down" => EffectHead::Change,
+        "scale-up" => EffectHead::Change,
+        "when" => EffectHead::Unread;
+        else => other_head(text)
+    }
+}
+
+fn one_leaf(alloc: Global, leaf: EffAst) -> Result<Items<EffAst>, AllocError>
+    ensures { IfOk result (λ leaves. leaves ≡ only leaf) }
+{
+    let mut leaves = Items::new(alloc);
+    leaves.push(leaf)?;
+    Ok(leaves)
+}
+
+fn read_put(
+    alloc: Global,
+    head: &Tree,
+    parts: &[Tree],
+    faults: &mut FirstFault,
+) -> Result<Option<Items<EffAst>>, AllocError>
+    ensures { Reads (mapped (effect.put_leaf true) (arguments Term head.now parts.now)) faults.old faults.new result }
+{
+    let Some(call) = read_arguments(alloc, Sort::Term, head, parts, faults)? else {
+        return Ok(None);
+    };
+    let Call { name, args } = call;
+    let leaves = one_leaf(
+        alloc,
+        EffAst::Put {
+            pos: true,
+            name,
+            args,
+        },
+    )?;
+    Ok(Some(leaves))
+}
+
+/// `(not ATOM)`, of which the atom is given.
+fn read_undone_part(
+    alloc: Global,
+    start: u32,
+    end: u32,
+    not: &Tree,
+    parts: &[Tree],
+    faults: &mut FirstFault,
+) -> Result<Option<Call>, AllocError>
+    ensures { Reads (one_part (undone Term not.now) start end parts.now) faults.old faults.new result }
+{
+    let Some((first, more)) = parted(parts) else {
+        faults.lacking(alloc, end);
+        return Ok(None);
+    };
+    let call = read_undone(alloc, Sort::Term, not, first, faults)?;
+    let none_left = more.is_empty();
+    Ok(provided(alloc, none_left, start, call, faults))
+}
+
+fn read_deletion(
+    alloc: Global,
+    start: u32,
+    end: u32,
+    not: &Tree,
+    parts: &[Tree],
+    faults: &mut FirstFault,
+) -> Result<Option<Items<EffAst>>, AllocError>
+    ensures { Reads (mapped (effect.put_leaf false) (one_part (undone Term not.now) start end parts.now)) faults.old faults.new result }
+{
+    let Some(call) = read_undone_part(alloc, start, end, not, parts, faults)? else {
+        return Ok(None);
+    };
+    let Call { name, args } = call;
+    let leaves = one_leaf(
+        alloc,
+        EffAst::Put {
+            pos: false,
+            name,
+            args,
+        },
+    )?;
+    Ok(Some(leaves))
+}
+
+fn read_change_parts(
+    alloc: Global,
+    start: u32,
+    end: u32,
+    parts: &[Tree],
+    faults: &mut FirstFault,
+) -> Result<Option<(Call, ExprAst)>, AllocError>
+    ensures { Reads (two_parts (call_form Term) expression_form start end parts.now) faults.old faults.new result }
+{
+    let Some((first, rest)) = parted(parts) else {
+        faults.lacking(alloc, end);
+        return Ok(None);
+    };
+    let target = read_call(alloc, Sort::Term, first, faults)?;
+    let Some((second, more)) = parted(rest) else {
+        faults.lacking(alloc, end);
+        return Ok(None);
+    };
+    let amount = read_expression(alloc, second, faults)?;
+    let both = pair(target, amount);
+    let none_left = more.is_empty();
+    Ok(provided(alloc, none_left, start, both, faults))
+}
+
+/// `(OP (NAME TERM ..) EXPR)`.
+#[tactic(auto, unfolding(crate::specs::Effect::change))]
+fn read_change(
+    alloc: Global,
+    start: u32,
+    end: u32,
+    head: &Tree,
+    parts: &[Tree],
+    faults: &mut FirstFault,
+) -> Result<Option<Items<EffAst>>, AllocError>
+    ensures { Reads (effect.change start end head.now parts.now) faults.old faults.new result }
+{
+    let Some((call, by)) = read_change_parts(alloc, start, end, parts, faults)? else {
+        return Ok(None);
+    };
+    let Call { name, args } = call;
+    let op = make_spot(alloc, head)?;
+    let leaves = one_leaf(alloc, EffAst::Change { op, name, args, by })?;
+    Ok(Some(leaves))
+}
+
+#[cycle(effect)]
+fn read_leaves(
+    alloc: Global,
+    trees: &[Tree],
+    faults: &mut FirstFault,
+) -> Result<Option<Items<EffAst>>, AllocError>
+    ensures { Reads (mapped joined (each (map effect.effect_form trees.now))) faults.old faults.new result }
+{
+    let mut found = Some(Items::new(alloc));
+    for tree in trees {
+        let more = read_effect(alloc, tree, faults)?;
+        add_all(&mut found, more)?;
+    }
+    Ok(found)
+}
+
+/// A list with this head and these trees behind it.
+#[cycle(effect)]
+#[tactic(auto, unfolding(pddl_form::specs::Judged::noted, crate::specs::Effect::headed_effect))]
+fn read_headed(
+    alloc: Global,
+    start: u32,
+    end: u32,
+    head: &Tree,
+    parts: &[Tree],
+    faults: &mut FirstFault,
+) -> Result<Option<Items<EffAst>>, AllocError>
+    ensures { Reads (effect.headed_effect start end head.now parts.now (map effect.effect_form parts.now)) faults.old faults.new result }
+{
+    match find_head(word(head)) {
+        EffectHead::And => read_leaves(alloc, parts, faults),
+        EffectHead::Not => read_deletion(alloc, start, end, head, parts, faults),
+        EffectHead::Change => read_change(alloc, start, end, head, parts, faults),
+        EffectHead::Unread => note_unread(alloc, head, faults),
+        EffectHead::Predicate => read_put(alloc, head, parts, faults),
+        EffectHead::Other => {
+            faults.misshapen(alloc, start);
+            Ok(None)
+        }
+    }
+}
+
+#[cycle(effect)]
+#[tactic(auto, unfolding(pddl_form::specs::Judged::noted))]
+fn read_list(
+    alloc: Global,
+    start: u32,
+    end: u32,
+    items: &[Tree],
+    faults: &mut FirstFault,
+) -> Result<Option<Items<EffAst>>, AllocError>
+    ensures { Reads (effect.effect_list start end items.now (map effect.effect_form items.now)) faults.old faults.new result }
+{
+    let [head, parts @ ..] = items else {
+        return Ok(Some(Items::new(alloc)));
+    };
+    read_headed(alloc, start, end, head, parts, faults)
+}
+
+/// An effect.
+#[cycle(effect)]
+#[tactic(auto, unfolding(pddl_form::specs::Judged::noted))]
+pub fn read_effect(
+    alloc: Global,
+    tree: &Tree,
+    faults: &mut FirstFault,
+) -> Result<Option<Items<EffAst>>, AllocError>
+    ensures { Reads (effect.effect_form tree.now) faults.old faults.new result }
+{
+    match tree {
+        Tree::Word { start, .. } => {
+            faults.misshapen(alloc, *start);
+            Ok(None)
+        }
+        Tree::List { start, end, items } => {
+            read_list(alloc, *start, *end, items.as_slice(), faults)
+        }
+    }
+}
