@@ -28,8 +28,26 @@ def many_atoms(domain, problem, size):
     return write_repeated(problem, head, " (visited-place-{0})", tail, size)
 
 
+def many_values(domain, problem, size):
+    # Objects, and for each the value of a function and an atom: the usual large problem.
+    head, tail = "(define (problem p) (:domain d) (:init", ") (:goal (and (>= (fuel truck-1) 0.5))))"
+    piece = "\n (= (fuel truck-{0}) {0}.25) (at truck-{0} place-{0})"
+    write_repeated(domain, SMALL_DOMAIN, "", "", 0)
+    return write_repeated(problem, head, piece, tail, size)
+
+
+def many_objects(domain, problem, size):
+    head, tail = "(define (problem p) (:domain d) (:goal (g)) (:objects", "))"
+    write_repeated(domain, SMALL_DOMAIN, "", "", 0)
+    return write_repeated(problem, head, "\n truck-{0} lorry-{0} - vehicle-{0}", tail, size)
+
+
 def many_actions(domain, problem, size):
-    piece = "\n (:action move-{0} :precondition (at-{0}) :effect (seen-{0}))"
+    piece = """
+ (:action drive-{0}
+  :parameters (?v - (either truck lorry) ?from ?to - place)
+  :precondition (and (at ?v ?from) (not (= ?from ?to)) (>= (fuel ?v) (* 1.5 (distance ?from ?to))))
+  :effect (and (not (at ?v ?from)) (at ?v ?to) (decrease (fuel ?v) (* 1.5 (distance ?from ?to)))))"""
     write_repeated(problem, SMALL_PROBLEM, "", "", 0)
     return write_repeated(domain, "(define (domain d) (:predicates (g))", piece, ")", size)
 
@@ -40,10 +58,10 @@ def wide(domain, problem, size):
 
 
 def deep(domain, problem, size):
-    # As deep as a text may be. Such a text isn't thin, so the status is 3, after all of it was read.
-    nest = "(" * 198 + "w{0}" + ")" * 198
+    # As deep as a text may be: conditions in one another, in many actions.
+    nest = "(:action a{0} :precondition " + "(and " * 196 + "(g)" + ")" * 196 + ")"
     write_repeated(problem, SMALL_PROBLEM, "", "", 0)
-    return write_repeated(domain, "(define (domain d) (:predicates", nest, "))", size)
+    return write_repeated(domain, "(define (domain d) (:predicates (g))", nest, ")", size)
 
 
 def shortest(domain, problem, size):
@@ -51,6 +69,16 @@ def shortest(domain, problem, size):
     head, tail = "(define (problem p) (:domain d) (:init ", ") (:goal (g)))"
     write_repeated(domain, SMALL_DOMAIN, "", "", 0)
     return write_repeated(problem, head, "(a)", tail, size)
+
+
+def sections(domain, problem, size):
+    # Half actions, then half sections that stand twice: each is at fault.
+    write_repeated(problem, SMALL_PROBLEM, "", "", 0)
+    head = "(define (domain d)" + "(:action a)" * (size // 22)
+    return write_repeated(domain, head, "(:types)", ")", size)
+
+
+SHAPES = (many_atoms, many_values, many_objects, many_actions, wide, deep, shortest, sections)
 
 
 def measured(shape, size):
@@ -67,7 +95,7 @@ def measured(shape, size):
 def main():
     sizes = [int(word) for word in sys.argv[1:]] or [1, 4, 16, 64]
     print(f"{'shape':<14}{'MB':>5}{'seconds':>10}{'MB/s':>8}{'peak MB':>10}{'status':>8}")
-    for shape in (many_atoms, many_actions, wide, deep, shortest):
+    for shape in SHAPES:
         for size in sizes:
             # The longest file that is taken has 67,108,864 bytes.
             length, seconds, peak, status = measured(shape, min(size * 1_048_576, 67_108_000))
