@@ -65,8 +65,9 @@ pub fn action_keys_rise()
 fn find_key(text: &str) -> Key
     ensures { result ≡ spec.key_of text.now }
 {
+    let table = &KEYS;
     rows! {
-        KEYS, text.as_bytes();
+        table, text.as_bytes();
         ":effect" => Key::Effect,
         ":parameters" => Key::Parameters,
         ":precondition" => Key::Precondition;

@@ -86,8 +86,9 @@ fn other_head(text: &str) -> EffectHead
 fn find_head(text: &str) -> EffectHead
     ensures { result ≡ effect.effect_head_of text.now }
 {
+    let table = &HEADS;
     rows! {
-        HEADS, text.as_bytes();
+        table, text.as_bytes();
         "and" => EffectHead::And,
         "assign" => EffectHead::Change,
         "decrease" => EffectHead::Change,
