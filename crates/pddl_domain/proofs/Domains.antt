@@ -1,17 +1,15 @@
 -- A domain is read where its parts are.
-use Rattle.std.proofs.Common.{◌≡◌, List, Option, Some, None, refl, sym, ◌∙◌, ap, subst}
-use Rattle.std.specs.Option.{option_and}
+use Rattle.std.proofs.Common.{List, Option}
 use Rattle.pddl_form.specs.declared.fault.Fault.{Fault}
 use Rattle.pddl_form.specs.declared.spot.Spot.{Spot}
 use Rattle.pddl_form.specs.declared.typed.Typed.{Typed}
-use Rattle.pddl_form.specs.Gather.{option_both}
-use Rattle.pddl_form.specs.Judged.{Judged, both}
+use Rattle.pddl_form.specs.Gather.{apply}
+use Rattle.pddl_form.specs.Judged.{Judged}
 use Rattle.pddl_form.specs.Reading.{IsRead}
-use Rattle.pddl_form.specs.Sections.{Tested, second}
 use Rattle.pddl_form.proofs.Loops.{read_mapped, read_both}
 use Rattle.pddl_domain.specs.declared.action.ActionAst.{ActionAst}
 use Rattle.pddl_domain.specs.declared.head.Head.{Head}
-use Rattle.pddl_domain.specs.Domain.{whole, domain_of, apply}
+use Rattle.pddl_domain.specs.Domain.{whole, domain_of}
 use Rattle.pddl_domain.specs.inside.Made.{whole_made}
 
 -- the six parts, one behind another
@@ -26,17 +24,3 @@ whole_read name types constants preds funcs actions f0 f1 f2 f3 f4 f5 f6 n t k p
     (read_both apply _ preds f0 f3 f4 _ p
     (read_both apply _ constants f0 f2 f3 _ k
     (read_both apply _ types f0 f1 f2 _ t (read_mapped domain_of name f0 f1 n hn) ht) hk) hp) hf) ha
-
-and-both : {A : Type 0} (x y : Option (Unit {0})) (z : Option A) → option_both second x (option_both second y z) ≡ option_and (option_and x y) z
-and-both None y z = refl
-and-both (Some u) None z = refl
-and-both (Some u) (Some v) None = refl
-and-both (Some u) (Some v) (Some a) = refl
-
--- two tests in front
-pub tested_read : {A : Type 0} (j k : Tested) (w : Judged A) (f0 f1 f2 f3 : Option Fault) (x y both_pass : Option (Unit {0})) (z made r : Option A)
-    → IsRead j f0 f1 x → IsRead k f1 f2 y → IsRead w f2 f3 z → both_pass ≡ option_and x y → made ≡ z → r ≡ option_and both_pass made → IsRead (both second j (both second k w)) f0 f3 r
-tested_read {A = A} j k w f0 f1 f2 f3 x y both_pass z made r hj hk hw pass is_made is =
-    let same : option_and both_pass made ≡ option_and (option_and x y) z = ap (λ (o : Option (Unit {0})). option_and o made) pass ∙ ap (option_and (option_and x y)) is_made in
-    subst (λ (o : Option A). IsRead (both second j (both second k w)) f0 f3 o) (and-both x y z ∙ sym (is ∙ same))
-    (read_both second j (both second k w) f0 f1 f3 x (option_both second y z) hj (read_both second k w f1 f2 f3 y z hk hw))

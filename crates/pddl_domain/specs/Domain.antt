@@ -5,6 +5,7 @@ use Rattle.sexpr.specs.declared.fault.Source.TheVariants as source
 use Rattle.pddl_form.specs.declared.names.Sort.TheVariants.{Name}
 use Rattle.pddl_form.specs.declared.spot.Spot.{Spot}
 use Rattle.pddl_form.specs.declared.typed.Typed.{Typed}
+use Rattle.pddl_form.specs.Gather.{apply}
 use Rattle.pddl_form.specs.Judged.{Judged, good, mapped, both, each}
 use Rattle.pddl_form.specs.Typed.{typed_list}
 use Rattle.pddl_form.specs.Sections.{Contents, Definition, section_with, sections_with, contents_or, second, sections_form, requirements_form, title_form, definition_form, and_then}
@@ -57,10 +58,6 @@ actions_section sections = each (map action_in (sections_with (codes ":action") 
 -- a domain from its parts
 abbrev pub domain_of : Spot → List Typed → List Typed → List Head → List Head → List ActionAst → DomainAst
 domain_of name types constants preds funcs actions = record { name = name; types = types; constants = constants; preds = preds; funcs = funcs; actions = actions }
-
--- a function of the parts so far, and one more part
-abbrev pub apply : {A B : Type 0} → (A → B) → A → B
-apply f a = f a
 
 -- the six parts, or the faults of all
 unfoldable pub whole : Judged Spot → Judged (List Typed) → Judged (List Typed) → Judged (List Head) → Judged (List Head) → Judged (List ActionAst) → Judged DomainAst

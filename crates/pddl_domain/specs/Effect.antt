@@ -10,9 +10,9 @@ use Rattle.pddl_form.specs.Names.{is_symbol}
 use Rattle.pddl_form.specs.Words.{word_of, spot_of}
 use Rattle.pddl_form.specs.Calls.{arguments, call_form}
 use Rattle.pddl_form.specs.Typed.{only}
-use Rattle.pddl_form.specs.Parts.{one_part, two_parts}
+use Rattle.pddl_form.specs.Parts.{two_parts}
 use Rattle.pddl_form.specs.Expression.{expression_form}
-use Rattle.pddl_form.specs.Condition.{is_one_of, not_read, undone}
+use Rattle.pddl_form.specs.Condition.{is_one_of, not_read, undone, negation}
 use Rattle.pddl_form.specs.Recursion.{tree_rec}
 use Rattle.pddl_domain.specs.declared.effect.EffAst.{EffAst}
 use Rattle.pddl_domain.specs.declared.effect.EffAst.TheVariants as eff
@@ -54,7 +54,7 @@ change start end head parts = mapped (change_leaf head) (two_parts (call_form Te
 -- a list with this head, these trees behind it and what an effect makes of each of them
 abbrev pub effect_by : EffectHead → ℕ → ℕ → Tree → List Tree → List (Judged (List EffAst)) → Judged (List EffAst)
 effect_by And start end head parts leaves = mapped joined (each leaves)
-effect_by Not start end head parts leaves = mapped (put_leaf false) (one_part (undone Term head) start end parts)
+effect_by Not start end head parts leaves = mapped (put_leaf false) (negation (undone Term head) start end parts)
 effect_by Change start end head parts leaves = change start end head parts
 effect_by Unread start end head parts leaves = not_read head
 effect_by Predicate start end head parts leaves = mapped (put_leaf true) (arguments Term head parts)

@@ -6,9 +6,9 @@ ghost use Rattle.pddl_form.specs.Gather.{joined};
 ghost use Rattle.pddl_form.specs.Judged.{each, mapped};
 ghost use Rattle.pddl_form.specs.Reading.{Reads};
 ghost use Rattle.pddl_form.specs.Calls.{arguments, call_form};
-ghost use Rattle.pddl_form.specs.Condition.{undone};
+ghost use Rattle.pddl_form.specs.Condition.{negation, undone};
 ghost use Rattle.pddl_form.specs.Expression.{expression_form};
-ghost use Rattle.pddl_form.specs.Parts.{one_part, two_parts};
+ghost use Rattle.pddl_form.specs.Parts.{two_parts};
 ghost use Rattle.pddl_form.specs.Typed.{only};
 ghost use Rattle.pddl_form.specs.declared.names.Sort.TheVariants.{Term};
 ghost use Rattle.pddl_domain.specs.Effect as effect;
@@ -133,26 +133,7 @@ fn read_put(
     Ok(Some(leaves))
 }
 
-/// `(not ATOM)`, of which the atom is given.
-fn read_undone_part(
-    alloc: Global,
-    start: u32,
-    end: u32,
-    not: &Tree,
-    parts: &[Tree],
-    faults: &mut FirstFault,
-) -> Result<Option<Call>, AllocError>
-    ensures { Reads (one_part (undone Term not.now) start end parts.now) faults.old faults.new result }
-{
-    let Some((first, more)) = parted(parts) else {
-        faults.lacking(alloc, end);
-        return Ok(None);
-    };
-    let call = read_undone(alloc, Sort::Term, not, first, faults)?;
-    let none_left = more.is_empty();
-    Ok(provided(alloc, none_left, start, call, faults))
-}
-
+/// `(not ATOM)`.
 fn read_deletion(
     alloc: Global,
     start: u32,
@@ -161,9 +142,9 @@ fn read_deletion(
     parts: &[Tree],
     faults: &mut FirstFault,
 ) -> Result<Option<Items<EffAst>>, AllocError>
-    ensures { Reads (mapped (effect.put_leaf false) (one_part (undone Term not.now) start end parts.now)) faults.old faults.new result }
+    ensures { Reads (mapped (effect.put_leaf false) (negation (undone Term not.now) start end parts.now)) faults.old faults.new result }
 {
-    let Some(call) = read_undone_part(alloc, start, end, not, parts, faults)? else {
+    let Some(call) = read_undone(alloc, Sort::Term, start, end, not, parts, faults)? else {
         return Ok(None);
     };
     let Call { name, args } = call;

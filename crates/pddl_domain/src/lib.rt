@@ -1,7 +1,8 @@
 //! A domain as it is written: from a tree of words and lists to the domain's syntax, or the first fault of its shape.
 //!
-//! Begin with `read_domain`. Its sections are read one by one, each by a reader of its own that goes over all parts of
-//! its tree and tells a `FirstFault` what it finds. What domain and problem share stands in `pddl_form`.
+//! Begin with `read_domain`. Its sections are read one by one, each by a reader of its own that goes on behind a fault,
+//! over each part that has a place there, and tells a `FirstFault` what it finds. What domain and problem share stands in
+//! `pddl_form`.
 #![tactic(auto)]
 
 mod action;

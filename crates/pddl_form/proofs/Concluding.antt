@@ -9,7 +9,7 @@ use Rattle.pddl_form.specs.Judged.{Judged, good, bad, syntax_of, faults_of, note
 use Rattle.pddl_form.specs.Gather.{option_both, push}
 use Rattle.pddl_form.specs.Put.{put_all}
 use Rattle.pddl_form.specs.Reading.{IsRead}
-use Rattle.pddl_form.specs.Concluded.{concluded, Answers}
+use Rattle.pddl_form.specs.Concluded.{Concludes, HasOutcome, Answers}
 use Rattle.pddl_form.proofs.Judging.{faults_of-both}
 use Rattle.pddl_form.proofs.Loops.{read_as, read_both, right_none}
 
@@ -89,19 +89,29 @@ is_good : {A : Type 0} (j : Judged A) (a : A) → Some a ≡ syntax_of j → j �
 is_good (good b) a is = cc is
 is_good (bad f more) a is = absurd (cc is)
 
-least_is_some : (f : Fault) (fs : List Fault) → least (Some f) fs ≡ None → ⊥
-least_is_some f [] is = cc is
-least_is_some f (g ∷ fs) is = least_is_some (first_with (Some f) g) fs is
+-- the least of some faults is some fault
+least_outcome : {A : Type 0} (made : Option A) (f : Fault) (fs : List Fault) → HasOutcome made (least (Some f) fs)
+least_outcome (Some a) f fs = tt
+least_outcome None f [] = tt
+least_outcome {A = A} None f (g ∷ fs) = least_outcome {A = A} None (first_with (Some f) g) fs
 
-some_fault : {A : Type 0} (j : Judged A) → None ≡ noted None j → None ≡ syntax_of j → ⊥
+pub some_least : {A : Type 0} (made : Option A) (f : Fault) (fs : List Fault) (first : Option Fault) → first ≡ least None (f ∷ fs) → HasOutcome made first
+some_least made f fs first is = subst (HasOutcome made) (sym is) (least_outcome made f fs)
+
+judged_outcome : {A : Type 0} (j : Judged A) → HasOutcome (syntax_of j) (noted None j)
 unfolding noted
-some_fault (good a) is none = cc none
-some_fault (bad f more) is none = least_is_some f more (sym is)
+judged_outcome (good a) = tt
+judged_outcome {A = A} (bad f more) = least_outcome {A = A} None f more
 
-pub answers : {A : Type 0} (file : Source) (j : Judged A) (made : Option A) (first : Option Fault) (r : Result A TextRefusal) → IsRead j None first made → r ≡ concluded file made first → Answers file j r
+-- what is read has a syntax or a fault
+pub has_outcome : {A : Type 0} (j : Judged A) (made : Option A) (first : Option Fault) → IsRead j None first made → HasOutcome made first
+has_outcome {A = A} j made first read =
+    subst (λ (o : Option A). HasOutcome o first) (sym read.syntax_is) (subst (HasOutcome (syntax_of j)) (sym read.first_is) (judged_outcome j))
+
+pub answers : {A : Type 0} (file : Source) (j : Judged A) (made : Option A) (first : Option Fault) (r : Result A TextRefusal) → IsRead j None first made → Concludes file made first r → Answers file j r
 answers {A = A} file j made (Some f) r read is = subst (Answers file j) (sym is) (f, sym read.first_is, refl)
 answers {A = A} file j (Some a) None r read is = subst (Answers file j) (sym is) (is_good j a read.syntax_is)
-answers {A = A} file j None None r read is = absurd (some_fault j read.first_is read.syntax_is)
+answers {A = A} file j None None r read none = absurd none
 
 -- the same, where the whole with all parts is known
 pub record Putting {A S : Type 0} (put : A → S → A) (total : Judged A) (left : Judged (List S)) (old now : Option Fault) (found : Option A) : Type 0 where

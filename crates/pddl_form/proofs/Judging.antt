@@ -7,7 +7,7 @@ use Rattle.pddl_form.specs.Faults.{first_with, least}
 use Rattle.pddl_form.specs.Judged.{Judged, good, bad, syntax_of, faults_of, noted, mapped, both, each, besides}
 use Rattle.pddl_form.specs.Gather.{option_both, push, joined}
 
-least-append : (first : Option Fault) (fs gs : List Fault) → least first (fs ++ gs) ≡ least (least first fs) gs
+pub least-append : (first : Option Fault) (fs gs : List Fault) → least first (fs ++ gs) ≡ least (least first fs) gs
 least-append first [] gs = refl
 least-append first (f ∷ fs) gs = least-append (Some (first_with first f)) fs gs
 

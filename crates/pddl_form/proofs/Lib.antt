@@ -7,6 +7,7 @@ pub mod Expressions
 pub mod Conditions
 pub mod TypedLists
 pub mod ConditionLaws
+pub mod UnreadNot
 pub mod Concluding
 pub mod SectionLaws
 pub mod FirstFaults

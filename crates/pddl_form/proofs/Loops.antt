@@ -84,50 +84,51 @@ pub both_some : {A B C : Type 0} (g : A → B → C) (a : Judged A) (b : Judged 
 both_some {A = A} {B = B} g a b old mid new x y u v w h is_x k is_y same =
     subst (λ o. IsRead (both g a b) old new o) (ap (λ (o : Option A). option_both g o y) is_x ∙ ap (option_both g (Some u)) is_y ∙ ap Some (sym same)) (read_both g a b old mid new x y h k)
 
-map-take : {A : Type 0} (form : Tree → A) (trees : List Tree) (i : ℕ) (t : Tree) → i < length trees → t ≡ get_or trees i t → map form (take (i + 1) trees) ≡ map form (take i trees) ++ form t ∷ []
-map-take form trees i t within is =
-    ap (map form) (take_more trees i t within) ∙ map-append form (take i trees) (get_or trees i t ∷ []) ∙ ap (λ (s : Tree). map form (take i trees) ++ form s ∷ []) (sym is)
+-- what is made of one more part
+pub map-take : {X A : Type 0} (form : X → A) (parts : List X) (i : ℕ) (part : X) → i < length parts → part ≡ get_or parts i part → map form (take (i + 1) parts) ≡ map form (take i parts) ++ form part ∷ []
+map-take {X = X} form parts i part within is =
+    ap (map form) (take_more parts i part within) ∙ map-append form (take i parts) (get_or parts i part ∷ []) ∙ ap (λ (s : X). map form (take i parts) ++ form s ∷ []) (sym is)
 
--- the first i of the trees, read one after another
-pub record AreRead {A : Type 0} (form : Tree → Judged A) (trees : List Tree) (i : ℕ) (old now : Option Fault) (found : Option (List A)) : Type 0 where
-  pub are_read : IsRead (each (map form (take i trees))) old now found
+-- the first i of some parts, read one after another
+pub record AreRead {X A : Type 0} (form : X → Judged A) (parts : List X) (i : ℕ) (old now : Option Fault) (found : Option (List A)) : Type 0 where
+  pub are_read : IsRead (each (map form (take i parts))) old now found
 
-pub one_more_read : {A : Type 0} (form : Tree → Judged A) (trees : List Tree) (i : ℕ) (t : Tree) (old mid new : Option Fault) (found more : Option (List A)) (one : Option A)
-    → AreRead form trees i old mid found → i < length trees → t ≡ get_or trees i t → IsRead (form t) mid new one → more ≡ option_both push found one
-    → AreRead form trees (i + 1) old new more
-one_more_read {A = A} form trees i t old mid new found more one h within at k is =
-    let all : each (map form (take (i + 1) trees)) ≡ both push (each (map form (take i trees))) (form t) = ap each (map-take form trees i t within at) ∙ each-push (map form (take i trees)) (form t) in
+pub one_more_read : {X A : Type 0} (form : X → Judged A) (parts : List X) (i : ℕ) (part : X) (old mid new : Option Fault) (found more : Option (List A)) (one : Option A)
+    → AreRead form parts i old mid found → i < length parts → part ≡ get_or parts i part → IsRead (form part) mid new one → more ≡ option_both push found one
+    → AreRead form parts (i + 1) old new more
+one_more_read {A = A} form parts i part old mid new found more one h within at k is =
+    let all : each (map form (take (i + 1) parts)) ≡ both push (each (map form (take i parts))) (form part) = ap each (map-take form parts i part within at) ∙ each-push (map form (take i parts)) (form part) in
     record {
       are_read =
           subst (λ (j : Judged (List A)). IsRead j old new more) (sym all)
-          (subst (λ (o : Option (List A)). IsRead (both push (each (map form (take i trees))) (form t)) old new o) (sym is)
-          (read_both push (each (map form (take i trees))) (form t) old mid new found one h.are_read k));
+          (subst (λ (o : Option (List A)). IsRead (both push (each (map form (take i parts))) (form part)) old new o) (sym is)
+          (read_both push (each (map form (take i parts))) (form part) old mid new found one h.are_read k));
     }
 
-pub all_read : {A : Type 0} (form : Tree → Judged A) (trees : List Tree) (i : ℕ) (old now : Option Fault) (found : Option (List A)) → AreRead form trees i old now found → length trees ≤ i → IsRead (each (map form trees)) old now found
-all_read form trees i old now found h whole = subst (λ (ts : List Tree). IsRead (each (map form ts)) old now found) (take_all i trees whole) h.are_read
+pub all_read : {X A : Type 0} (form : X → Judged A) (parts : List X) (i : ℕ) (old now : Option Fault) (found : Option (List A)) → AreRead form parts i old now found → length parts ≤ i → IsRead (each (map form parts)) old now found
+all_read {X = X} form parts i old now found h whole = subst (λ (ps : List X). IsRead (each (map form ps)) old now found) (take_all i parts whole) h.are_read
 
-pub none_read : {A : Type 0} (form : Tree → Judged A) (trees : List Tree) (first : Option Fault) (items : List A) → items ≡ [] → AreRead form trees 0 first first (Some items)
-none_read {A = A} form trees first items is = subst (λ (xs : List A). AreRead form trees 0 first first (Some xs)) (sym is) (record { are_read = read_good first [] })
+pub none_read : {X A : Type 0} (form : X → Judged A) (parts : List X) (first : Option Fault) (items : List A) → items ≡ [] → AreRead form parts 0 first first (Some items)
+none_read {A = A} form parts first items is = subst (λ (xs : List A). AreRead form parts 0 first first (Some xs)) (sym is) (record { are_read = read_good first [] })
 
--- the same where each tree gives a list, and the lists are joined
-pub record AreJoined {A : Type 0} (form : Tree → Judged (List A)) (trees : List Tree) (i : ℕ) (old now : Option Fault) (found : Option (List A)) : Type 0 where
-  pub are_joined : IsRead (mapped joined (each (map form (take i trees)))) old now found
+-- the same where each part gives a list, and the lists are joined
+pub record AreJoined {X A : Type 0} (form : X → Judged (List A)) (parts : List X) (i : ℕ) (old now : Option Fault) (found : Option (List A)) : Type 0 where
+  pub are_joined : IsRead (mapped joined (each (map form (take i parts)))) old now found
 
-pub one_more_joined : {A : Type 0} (form : Tree → Judged (List A)) (trees : List Tree) (i : ℕ) (t : Tree) (old mid new : Option Fault) (found more one : Option (List A))
-    → AreJoined form trees i old mid found → i < length trees → t ≡ get_or trees i t → IsRead (form t) mid new one → more ≡ option_both ◌++◌ found one
-    → AreJoined form trees (i + 1) old new more
-one_more_joined {A = A} form trees i t old mid new found more one h within at k is =
-    let all : mapped joined (each (map form (take (i + 1) trees))) ≡ both ◌++◌ (mapped joined (each (map form (take i trees)))) (form t) = ap (λ (js : List (Judged (List A))). mapped joined (each js)) (map-take form trees i t within at) ∙ joined-each-push (map form (take i trees)) (form t) in
+pub one_more_joined : {X A : Type 0} (form : X → Judged (List A)) (parts : List X) (i : ℕ) (part : X) (old mid new : Option Fault) (found more one : Option (List A))
+    → AreJoined form parts i old mid found → i < length parts → part ≡ get_or parts i part → IsRead (form part) mid new one → more ≡ option_both ◌++◌ found one
+    → AreJoined form parts (i + 1) old new more
+one_more_joined {A = A} form parts i part old mid new found more one h within at k is =
+    let all : mapped joined (each (map form (take (i + 1) parts))) ≡ both ◌++◌ (mapped joined (each (map form (take i parts)))) (form part) = ap (λ (js : List (Judged (List A))). mapped joined (each js)) (map-take form parts i part within at) ∙ joined-each-push (map form (take i parts)) (form part) in
     record {
       are_joined =
           subst (λ (j : Judged (List A)). IsRead j old new more) (sym all)
-          (subst (λ (o : Option (List A)). IsRead (both ◌++◌ (mapped joined (each (map form (take i trees)))) (form t)) old new o) (sym is)
-          (read_both ◌++◌ (mapped joined (each (map form (take i trees)))) (form t) old mid new found one h.are_joined k));
+          (subst (λ (o : Option (List A)). IsRead (both ◌++◌ (mapped joined (each (map form (take i parts)))) (form part)) old new o) (sym is)
+          (read_both ◌++◌ (mapped joined (each (map form (take i parts)))) (form part) old mid new found one h.are_joined k));
     }
 
-pub all_joined : {A : Type 0} (form : Tree → Judged (List A)) (trees : List Tree) (i : ℕ) (old now : Option Fault) (found : Option (List A)) → AreJoined form trees i old now found → length trees ≤ i → IsRead (mapped joined (each (map form trees))) old now found
-all_joined form trees i old now found h whole = subst (λ (ts : List Tree). IsRead (mapped joined (each (map form ts))) old now found) (take_all i trees whole) h.are_joined
+pub all_joined : {X A : Type 0} (form : X → Judged (List A)) (parts : List X) (i : ℕ) (old now : Option Fault) (found : Option (List A)) → AreJoined form parts i old now found → length parts ≤ i → IsRead (mapped joined (each (map form parts))) old now found
+all_joined {X = X} form parts i old now found h whole = subst (λ (ps : List X). IsRead (mapped joined (each (map form ps))) old now found) (take_all i parts whole) h.are_joined
 
-pub none_joined : {A : Type 0} (form : Tree → Judged (List A)) (trees : List Tree) (first : Option Fault) (items : List A) → items ≡ [] → AreJoined form trees 0 first first (Some items)
-none_joined {A = A} form trees first items is = subst (λ (xs : List A). AreJoined form trees 0 first first (Some xs)) (sym is) (record { are_joined = read_good first [] })
+pub none_joined : {X A : Type 0} (form : X → Judged (List A)) (parts : List X) (first : Option Fault) (items : List A) → items ≡ [] → AreJoined form parts 0 first first (Some items)
+none_joined {A = A} form parts first items is = subst (λ (xs : List A). AreJoined form parts 0 first first (Some xs)) (sym is) (record { are_joined = read_good first [] })

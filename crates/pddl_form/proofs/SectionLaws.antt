@@ -41,6 +41,20 @@ pub record AreTested (form : List Tree → Tree → Tested) (trees : List Tree) 
 pub none_tested : (form : List Tree → Tree → Tested) (trees : List Tree) (first : Option Fault) (u : Unit {0}) → AreTested form trees 0 first first (Some u)
 none_tested form trees first u = record { rest_reads = λ new x h. h }
 
+tests-and : {A : Type 0} (x y : Option (Unit {0})) (z : Option A) → option_both second x (option_both second y z) ≡ option_and (option_and x y) z
+tests-and None y z = refl
+tests-and (Some u) None z = refl
+tests-and (Some u) (Some v) None = refl
+tests-and (Some u) (Some v) (Some a) = refl
+
+-- two tests in front of a whole
+pub tested_read : {A : Type 0} (j k : Tested) (w : Judged A) (f0 f1 f2 f3 : Option Fault) (x y both_pass : Option (Unit {0})) (z made r : Option A)
+    → IsRead j f0 f1 x → IsRead k f1 f2 y → IsRead w f2 f3 z → both_pass ≡ option_and x y → made ≡ z → r ≡ option_and both_pass made → IsRead (both second j (both second k w)) f0 f3 r
+tested_read {A = A} j k w f0 f1 f2 f3 x y both_pass z made r hj hk hw pass is_made is =
+    let same : option_and both_pass made ≡ option_and (option_and x y) z = ap (λ (o : Option (Unit {0})). option_and o made) pass ∙ ap (option_and (option_and x y)) is_made in
+    subst (λ (o : Option A). IsRead (both second j (both second k w)) f0 f3 o) (tests-and x y z ∙ sym (is ∙ same))
+    (read_both second j (both second k w) f0 f1 f3 x (option_both second y z) hj (read_both second k w f1 f2 f3 y z hk hw))
+
 and-both : (all one x : Option (Unit {0})) → option_and all (option_both second one x) ≡ option_and (option_and all one) x
 and-both None one x = refl
 and-both (Some u) None x = refl

@@ -11,10 +11,17 @@ use Rattle.pddl_form.specs.Judged.{Judged, good, noted}
 abbrev pub text_fault : Source → Fault → TextFault
 text_fault file f = record { file = file; kind = f.kind; place = f.place; word = f.word }
 
-abbrev pub concluded : {A : Type 0} → Source → Option A → Option Fault → Result A TextRefusal
-concluded file made (Some f) = Err (refusal.Fault (text_fault file f))
-concluded file (Some a) None = Ok a
-concluded file None None = Err refusal.Memory
+-- there is a syntax or a fault
+abbrev pub HasOutcome : {A : Type 0} → Option A → Option Fault → Type 0
+HasOutcome (Some a) first = Unit {0}
+HasOutcome None (Some f) = Unit {0}
+HasOutcome None None = ⊥
+
+-- the first fault where there is one, and else the syntax
+abbrev pub Concludes : {A : Type 0} → Source → Option A → Option Fault → Result A TextRefusal → Type 0
+Concludes file made (Some f) r = r ≡ Err (refusal.Fault (text_fault file f))
+Concludes file (Some a) None r = r ≡ Ok a
+Concludes file None None r = ⊥
 
 -- the fault is the first of all
 abbrev pub RefusesBy : {A : Type 0} → Source → Judged A → TextRefusal → Type 0

@@ -1,6 +1,7 @@
 -- Conditions, each as the list of its leaves in text order.
-use Rattle.std.specs.Prelude.{ℕ, Bool, true, false, ◌&&◌, List, [], ◌∷◌, drop, Option, Some, None, codes, bytes_eq, if◌then◌else◌}
+use Rattle.std.specs.Prelude.{ℕ, Bool, true, false, ◌&&◌, ◌||◌, ◌==◌, List, [], ◌∷◌, drop, length, Option, Some, None, codes, bytes_eq, if◌then◌else◌}
 use Rattle.std.specs.List.{list_any}
+use Rattle.std.specs.Option.{is_none}
 use Rattle.sexpr.specs.declared.tree.Tree.{Tree, out-Tree}
 use Rattle.sexpr.specs.declared.tree.Tree.TheOpen.{Tree-F}
 use Rattle.sexpr.specs.Opened.{start_of}
@@ -13,12 +14,13 @@ use Rattle.pddl_form.specs.declared.condition.CondAst.{CondAst}
 use Rattle.pddl_form.specs.declared.condition.CondAst.TheVariants as cond
 use Rattle.pddl_form.specs.declared.condition.Head.{Head}
 use Rattle.pddl_form.specs.declared.condition.Head.TheVariants.{And, Not, Equal, Order, Unread, Predicate, Other}
-use Rattle.pddl_form.specs.Judged.{Judged, good, misshapen, lacking, unread_feature, mapped, each}
+use Rattle.pddl_form.specs.Faults.{shape}
+use Rattle.pddl_form.specs.Judged.{Judged, good, misshapen, lacking, unread_feature, mapped, each, provided}
 use Rattle.pddl_form.specs.Names.{is_symbol, takes}
 use Rattle.pddl_form.specs.Words.{word_of, spot_of}
 use Rattle.pddl_form.specs.Calls.{arguments}
 use Rattle.pddl_form.specs.Typed.{only}
-use Rattle.pddl_form.specs.Parts.{one_part, two_parts}
+use Rattle.pddl_form.specs.Parts.{two_parts}
 use Rattle.pddl_form.specs.Expression.{expression_form}
 use Rattle.pddl_form.specs.Recursion.{tree_rec}
 
@@ -69,7 +71,8 @@ abbrev pub equality : ℕ → ℕ → Tree → List Tree → Option (Tree × Tre
 equality start end head parts (Some sides) = good (same_leaf true sides)
 equality start end head parts None = comparison start end head parts
 
--- `not` stands before a list that is neither an atom nor an equality of objects
+-- a head that isn't read where it stands: `when`, `forall`, `at`, or `not` before a list that is neither an atom nor an
+-- equality of objects
 abbrev pub not_read : {A : Type 0} → Tree → Judged A
 not_read word = unread_feature (start_of word) (word_of word)
 
@@ -98,10 +101,40 @@ negated_at word (Tree-F.List start end items) = negated_list word end items
 unfoldable pub negated : Tree → Tree → Judged (List CondAst)
 negated word tree = negated_at word (out-Tree tree)
 
+-- `not` isn't read before a list that has a head and is neither an atom nor an equality of objects
+abbrev pub left_out_by : Head → List Tree → Bool
+left_out_by Predicate parts = false
+left_out_by Equal parts = is_none (equal_sides parts)
+left_out_by And parts = true
+left_out_by Not parts = true
+left_out_by Order parts = true
+left_out_by Unread parts = true
+left_out_by Other parts = true
+
+abbrev pub left_out_list : List Tree → Bool
+left_out_list [] = false
+left_out_list (head ∷ parts) = left_out_by (head_of (word_of head)) parts
+
+abbrev pub left_out_at : Tree-F Tree → Bool
+left_out_at (Tree-F.Word start end text) = false
+left_out_at (Tree-F.List start end items) = left_out_list items
+
+unfoldable pub is_left_out : Tree → Bool
+is_left_out tree = left_out_at (out-Tree tree)
+
+-- what may stand behind the tree that `not` stands before: nothing, or anything where `not` isn't read
+abbrev pub may_follow : Tree → List Tree → Bool
+may_follow tree more = is_left_out tree || length more == 0
+
+-- `(not TREE)`, where this form judges the tree: a further tree is a fault of the list
+unfoldable pub negation : {A : Type 0} → (Tree → Judged A) → ℕ → ℕ → List Tree → Judged A
+negation form start end [] = lacking end
+negation form start end (t ∷ more) = provided (may_follow t more) (shape start) (form t)
+
 -- a list with this head, these trees behind it and what a condition makes of each of them
 abbrev pub condition_by : Head → ℕ → ℕ → Tree → List Tree → List (Judged (List CondAst)) → Judged (List CondAst)
 condition_by And start end head parts leaves = mapped joined (each leaves)
-condition_by Not start end head parts leaves = one_part (negated head) start end parts
+condition_by Not start end head parts leaves = negation (negated head) start end parts
 condition_by Equal start end head parts leaves = equality start end head parts (equal_sides parts)
 condition_by Order start end head parts leaves = comparison start end head parts
 condition_by Unread start end head parts leaves = unread_feature (start_of head) (word_of head)
@@ -121,7 +154,7 @@ condition_word start end text = misshapen start
 unfoldable pub condition_form : Tree → Judged (List CondAst)
 condition_form = tree_rec condition_word condition_list
 
--- what stands behind the word `not` where an equality isn't of the form: an atom
+-- what stands behind the word `not` where an equality isn't of the form, as in an effect and in `:init`: an atom
 abbrev pub undone_equality : {A : Type 0} → Tree → ℕ → Option (Tree × Tree) → Judged A
 undone_equality word start (Some sides) = misshapen start
 undone_equality word start None = not_read word

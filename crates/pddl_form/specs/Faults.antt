@@ -11,8 +11,8 @@ abbrev pub feature : ℕ → List ℕ → Fault
 feature place word = record { kind = 5; place = place; word = word }
 
 -- a word in the place of a number isn't one (kind 10)
-abbrev pub number : ℕ → Fault
-number place = record { kind = 10; place = place; word = [] }
+abbrev pub not_a_number : ℕ → Fault
+not_a_number place = record { kind = 10; place = place; word = [] }
 
 -- the least place counts, and at one place the lower kind
 abbrev pub is_before : Fault → Fault → Bool

@@ -8,6 +8,10 @@ option_both g None b = None
 option_both g (Some a) None = None
 option_both g (Some a) (Some b) = Some (g a b)
 
+-- a function of the parts so far, and one more part
+abbrev pub apply : {A B : Type 0} → (A → B) → A → B
+apply f a = f a
+
 abbrev pub push : {A : Type 0} → List A → A → List A
 push found one = found ++ one ∷ []
 

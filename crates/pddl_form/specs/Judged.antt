@@ -1,9 +1,10 @@
 -- What a form makes of a tree.
 use Rattle.std.specs.Prelude.{ℕ, ◌-◌, Bool, true, false, nat_le, List, [], ◌∷◌, ◌++◌, length, Option, Some, None}
 use Rattle.pddl_form.specs.declared.fault.Fault.{Fault}
-use Rattle.pddl_form.specs.Faults.{shape, feature, number, least}
+use Rattle.pddl_form.specs.Faults.{shape, feature, not_a_number, least}
 
--- its syntax, or all faults of its parts, of which there is at least one
+-- its syntax, or its faults, of which there is at least one: its own, and those of its parts that are judged. Behind some
+-- faults a part has no place in the form, and isn't judged
 pub data Judged (A : Type 0) : Type 0 where
   good : A → Judged A
   bad : Fault → List Fault → Judged A
@@ -36,7 +37,7 @@ abbrev pub unread_feature : {A : Type 0} → ℕ → List ℕ → Judged A
 unread_feature place word = bad (feature place word) []
 
 abbrev pub no_number : {A : Type 0} → ℕ → Judged A
-no_number place = bad (number place) []
+no_number place = bad (not_a_number place) []
 
 -- a function of the syntax
 abbrev pub mapped : {A B : Type 0} → (A → B) → Judged A → Judged B

@@ -60,7 +60,7 @@ abbrev pub contents_or : {A : Type 0} → Judged A → (Contents → Judged A) �
 contents_or without form None = without
 contents_or without form (Some c) = form c
 
--- both tests
+-- the syntax of what stands behind a test
 abbrev pub second : {A B : Type 0} → A → B → B
 second a b = b
 
@@ -96,7 +96,7 @@ kind_of file text =
     else (if is_one_of (once file) text then Once
     else (if is_one_of unread_sections text then Unread else Unknown))
 
--- the same in a domain and in a problem
+-- the two kinds of a word: in a domain, and in a problem
 abbrev pub kinds_of : List ℕ → Kind × Kind
 kinds_of text = (kind_of source.Domain text, kind_of source.Problem text)
 

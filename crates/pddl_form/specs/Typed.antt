@@ -37,7 +37,7 @@ abbrev pub type_at : Sort → Tree → Tree-F Tree → Judged (List Spot)
 type_at sort tree (Tree-F.Word start end text) = mapped only (word_form Name tree)
 type_at sort tree (Tree-F.List start end items) = type_list sort start end items
 
--- what may stand behind a `-`: a name, or some names of which an object may have any
+-- what may stand behind a `-`: a name, and behind variables also `(either NAME ..)`, of which an object has any
 unfoldable pub type_form : Sort → Tree → Judged (List Spot)
 type_form sort tree = type_at sort tree (out-Tree tree)
 

@@ -22,7 +22,7 @@ spot_of tree = record { text = word_of tree; place = start_of tree }
 abbrev pub spotted : Bool → Tree → Judged Spot
 spotted fits tree = if fits then good (spot_of tree) else misshapen (start_of tree)
 
--- a name, a variable, or either of them
+-- a word of a sort: a name, a variable, either of them, or a keyword
 unfoldable pub word_form : Sort → Tree → Judged Spot
 word_form sort tree = spotted (takes sort (word_of tree)) tree
 

@@ -7,7 +7,7 @@ ghost use Rattle.pddl_form.specs.Gather.{joined};
 ghost use Rattle.pddl_form.specs.Judged.{each, mapped};
 ghost use Rattle.pddl_form.specs.Reading.{Reads};
 ghost use Rattle.pddl_form.specs.Calls.{arguments};
-ghost use Rattle.pddl_form.specs.Parts.{one_part, two_parts};
+ghost use Rattle.pddl_form.specs.Parts.{two_parts};
 ghost use Rattle.pddl_form.specs.Typed.{only};
 ghost use Rattle.pddl_form.specs.declared.names.Sort.TheVariants.{Term};
 ghost use Rattle.pddl_form.specs.Expression.{expression_form};
@@ -306,6 +306,31 @@ fn read_negated(
     }
 }
 
+/// Whether `not` isn't read before this tree.
+#[tactic(auto, unfolding(crate::specs::Condition::is_left_out))]
+fn is_left_out(tree: &Tree) -> bool
+    ensures { result ≡ condition.is_left_out tree.now }
+{
+    let Tree::List { items, .. } = tree else {
+        return false;
+    };
+    let [head, parts @ ..] = items.as_slice() else {
+        return false;
+    };
+    match find_head(word(head)) {
+        Head::Predicate => false,
+        Head::Equal => equal_sides(parts).is_none(),
+        Head::And | Head::Not | Head::Order | Head::Unread | Head::Other => true,
+    }
+}
+
+/// Whether these trees may stand behind the one that `not` stands before.
+fn may_follow(tree: &Tree, more: &[Tree]) -> bool
+    ensures { result ≡ condition.may_follow tree.now more.now }
+{
+    is_left_out(tree) || more.is_empty()
+}
+
 /// `(not CONDITION)`, of which the condition is given.
 fn read_negation(
     alloc: Global,
@@ -315,15 +340,15 @@ fn read_negation(
     parts: &[Tree],
     faults: &mut FirstFault,
 ) -> Result<Option<Items<CondAst>>, AllocError>
-    ensures { Reads (one_part (condition.negated not.now) start end parts.now) faults.old faults.new result }
+    ensures { Reads (condition.negation (condition.negated not.now) start end parts.now) faults.old faults.new result }
 {
     let Some((first, more)) = parted(parts) else {
         faults.lacking(alloc, end);
         return Ok(None);
     };
     let leaves = read_negated(alloc, not, first, faults)?;
-    let none_left = more.is_empty();
-    Ok(provided(alloc, none_left, start, leaves, faults))
+    let fits = may_follow(first, more);
+    Ok(provided(alloc, fits, start, leaves, faults))
 }
 
 #[cycle(condition)]
@@ -452,7 +477,7 @@ fn read_undone_list(
 
 /// What stands behind the word `not` where only atoms may be negated: an atom, with arguments of a sort.
 #[tactic(auto, unfolding(crate::specs::Condition::undone, crate::specs::Judged::noted))]
-pub fn read_undone(
+fn read_undone_atom(
     alloc: Global,
     sort: Sort,
     not: &Tree,
@@ -470,4 +495,25 @@ pub fn read_undone(
             read_undone_list(alloc, sort, not, *start, *end, items.as_slice(), faults)
         }
     }
+}
+
+/// `(not ATOM)`, of which the atom is given.
+pub fn read_undone(
+    alloc: Global,
+    sort: Sort,
+    start: u32,
+    end: u32,
+    not: &Tree,
+    parts: &[Tree],
+    faults: &mut FirstFault,
+) -> Result<Option<Call>, AllocError>
+    ensures { Reads (condition.negation (condition.undone sort not.now) start end parts.now) faults.old faults.new result }
+{
+    let Some((first, more)) = parted(parts) else {
+        faults.lacking(alloc, end);
+        return Ok(None);
+    };
+    let call = read_undone_atom(alloc, sort, not, first, faults)?;
+    let fits = may_follow(first, more);
+    Ok(provided(alloc, fits, start, call, faults))
 }

@@ -1,8 +1,8 @@
 //! Faults of a tree's shape, and the one that counts: that of the least place, and at one place that of the lower kind.
 //! Begin with `FirstFault`, which each reader tells its faults.
 ghost use Rattle.std.specs.Prelude.{◌≡◌, ◌-◌, [], Some, None, OnOk};
-ghost use Rattle.pddl_form.specs.Faults.{is_before, first_with, shape, feature, number};
-ghost use Rattle.pddl_form.specs.Concluded.{concluded};
+ghost use Rattle.pddl_form.specs.Faults.{is_before, first_with, shape, feature, not_a_number};
+ghost use Rattle.pddl_form.specs.Concluded.{Concludes, HasOutcome};
 
 use sexpr::{Source, Text, TextFault, TextRefusal};
 use std::alloc::{AllocError, Global};
@@ -52,7 +52,7 @@ impl FirstFault {
     }
 
     /// Keeps the first of what it has and this one.
-    fn note(&mut self, fault: Fault)
+    pub fn note(&mut self, fault: Fault)
         ensures { self.new ≡ Some (first_with self.old fault) }
     {
         let is_first = match &self.first {
@@ -97,7 +97,7 @@ impl FirstFault {
 
     /// A word in the place of a number isn't one.
     pub fn no_number(&mut self, alloc: Global, place: u32)
-        ensures { self.new ≡ Some (first_with self.old (number place)) }
+        ensures { self.new ≡ Some (first_with self.old (not_a_number place)) }
     {
         self.note(Fault {
             kind: 10,
@@ -113,7 +113,8 @@ pub fn conclude<T: Drop>(
     made: Option<T>,
     faults: FirstFault,
 ) -> Result<T, TextRefusal>
-    ensures { result ≡ concluded file made faults }
+    requires { HasOutcome made faults }
+    ensures { Concludes file made faults result }
 {
     match (faults.into_first(), made) {
         (Some(first), _) => {
@@ -126,6 +127,6 @@ pub fn conclude<T: Drop>(
             }))
         }
         (None, Some(made)) => Ok(made),
-        (None, None) => Err(TextRefusal::Memory),
+        (None, None) => unreachable!(),
     }
 }

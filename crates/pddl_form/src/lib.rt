@@ -1,8 +1,8 @@
 //! What the texts of a domain and of a problem are made of: names, typed lists, expressions and conditions, each read
 //! from a tree with exact faults.
 //!
-//! A reader goes over all parts of its tree and never stops at a fault: it answers the syntax, or none, and keeps in a
-//! `FirstFault` the fault that counts. Begin with `FirstFault`, then `read_word`, the smallest reader.
+//! A reader goes on behind a fault, over each part that has a place in the form there: it answers the syntax, or none,
+//! and keeps in a `FirstFault` the fault that counts. Begin with `FirstFault`, then `read_word`, the smallest reader.
 #![tactic(auto)]
 
 mod calls;
@@ -21,8 +21,8 @@ pub use condition::{CondAst, condition_heads_rise, note_unread, read_condition, 
 pub use expression::{ExprAst, operators_rise, read_expression, read_number};
 pub use fault::{Fault, FirstFault, conclude};
 pub use gather::{add, add_all, pair, parted, provided};
-pub use laws::{first_fault_is_least, one_condition, one_expression};
-pub use names::{Sort, is_symbol, reserved_words_rise};
+pub use laws::{first_fault_is_least, one_condition, one_expression, unread_not_is_one_fault};
+pub use names::{Sort, is_symbol, reserved_words_rise, takes};
 pub use sections::{
     Definition, Section, find_section, open_definition, read_only_name, read_requirements,
     read_section_words, read_title, section_behind, section_words_rise,

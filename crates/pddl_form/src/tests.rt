@@ -59,7 +59,7 @@ fn first_fault(
 
 #[test]
 fn forms_have_their_first_faults(rt: HostRuntime) -> Result<(), Fail> {
-    let rows: [(Form, &[u8], Option<(u8, u32)>); 26] = [
+    let rows: [(Form, &[u8], Option<(u8, u32)>); 29] = [
         (Form::Condition, b"()", None),
         (
             Form::Condition,
@@ -70,6 +70,9 @@ fn forms_have_their_first_faults(rt: HostRuntime) -> Result<(), Fail> {
         (Form::Condition, b"(and (or) (p (x)))", Some((5, 6))),
         (Form::Condition, b"(not (< 1 2))", Some((5, 1))),
         (Form::Condition, b"(not ())", Some((4, 6))),
+        (Form::Condition, b"(not () (p))", Some((4, 0))),
+        (Form::Condition, b"(not (p) (q))", Some((4, 0))),
+        (Form::Condition, b"(not (= a) (p (x)))", Some((5, 1))),
         (Form::Condition, b"(when a b)", Some((4, 0))),
         (Form::Condition, b"(= a)", Some((10, 3))),
         (Form::Condition, b"(<= 1 2 3)", Some((4, 0))),

@@ -10,9 +10,9 @@ use Rattle.pddl_form.specs.Judged.{Judged, misshapen, lacking, mapped}
 use Rattle.pddl_form.specs.Names.{is_symbol}
 use Rattle.pddl_form.specs.Words.{word_of}
 use Rattle.pddl_form.specs.Calls.{arguments, call_form}
-use Rattle.pddl_form.specs.Parts.{one_part, two_parts}
+use Rattle.pddl_form.specs.Parts.{two_parts}
 use Rattle.pddl_form.specs.Expression.{number_form}
-use Rattle.pddl_form.specs.Condition.{undone, not_read}
+use Rattle.pddl_form.specs.Condition.{undone, negation, not_read}
 use Rattle.pddl_problem.specs.declared.ast.InitAst.{InitAst}
 use Rattle.pddl_problem.specs.declared.ast.InitAst.TheVariants as item
 use Rattle.pddl_problem.specs.declared.init.Head.{Head}
@@ -41,7 +41,7 @@ true_atom start head parts = mapped (put_item true start) (arguments Name head p
 
 -- `(not (NAME name ..))`, by the word `not` and the trees behind it
 unfoldable pub false_atom : ℕ → ℕ → Tree → List Tree → Judged InitAst
-false_atom start end head parts = mapped (put_item false start) (one_part (undone Name head) start end parts)
+false_atom start end head parts = mapped (put_item false start) (negation (undone Name head) start end parts)
 
 -- `(= (NAME name ..) NUMBER)`, by the trees behind the `=`
 unfoldable pub first_value : ℕ → ℕ → List Tree → Judged InitAst

@@ -6,6 +6,7 @@ use Rattle.pddl_form.specs.declared.condition.CondAst.{CondAst}
 use Rattle.pddl_form.specs.declared.names.Sort.TheVariants.{Name}
 use Rattle.pddl_form.specs.declared.spot.Spot.{Spot}
 use Rattle.pddl_form.specs.declared.typed.Typed.{Typed}
+use Rattle.pddl_form.specs.Gather.{apply}
 use Rattle.pddl_form.specs.Judged.{Judged, good, lacking, mapped, both, each}
 use Rattle.pddl_form.specs.Words.{word_form}
 use Rattle.pddl_form.specs.Parts.{one_part}
@@ -52,10 +53,6 @@ goal_section end sections = contents_or (lacking end) goal_in (section_with (cod
 abbrev pub problem_of : Spot → Spot → List Typed → List InitAst → List CondAst → ProblemAst
 problem_of name domain objects init goal = record { name = name; domain = domain; objects = objects; init = init; goal = goal }
 
--- a function with one more part
-abbrev pub apply : {A B : Type 0} → (A → B) → A → B
-apply f a = f a
-
 -- the five parts, or the faults of all
 unfoldable pub whole : Judged Spot → Judged Spot → Judged (List Typed) → Judged (List InitAst) → Judged (List CondAst) → Judged ProblemAst
 whole name domain objects init goal = both apply (both apply (both apply (both apply (mapped problem_of name) domain) objects) init) goal
@@ -64,7 +61,7 @@ whole name domain objects init goal = both apply (both apply (both apply (both a
 abbrev pub read_sections : ℕ → Tree → List Tree → Judged ProblemAst
 read_sections end title sections = whole (title_form (codes "problem") title) (domain_section end sections) (objects_section sections) (init_section sections) (goal_section end sections)
 
--- the same, where each section's word may stand there and the requirements are words
+-- the same, where each section's word may stand there and the requirements are words that start with `:`
 unfoldable pub problem_parts : Definition → Judged ProblemAst
 problem_parts d = both second (sections_form Problem d.sections) (both second (requirements_form d.sections) (read_sections d.end d.title d.sections))
 

@@ -6,8 +6,7 @@ ghost use Rattle.kw_table.specs.Table.{Rises};
 ghost use Rattle.pddl_form.specs.Judged.{each};
 ghost use Rattle.pddl_form.specs.Reading.{Reads};
 ghost use Rattle.pddl_form.specs.Calls.{call_form};
-ghost use Rattle.pddl_form.specs.Condition.{undone};
-ghost use Rattle.pddl_form.specs.Parts.{one_part, two_parts};
+ghost use Rattle.pddl_form.specs.Parts.{two_parts};
 ghost use Rattle.pddl_form.specs.declared.names.Sort.TheVariants.{Name};
 ghost use Rattle.pddl_problem.specs.Init as init_spec;
 
@@ -124,26 +123,6 @@ fn read_true_atom(
     Ok(make_put(true, start, call))
 }
 
-/// What stands behind the word `not`: one atom and no more.
-fn read_only_atom(
-    alloc: Global,
-    start: u32,
-    end: u32,
-    not: &Tree,
-    parts: &[Tree],
-    faults: &mut FirstFault,
-) -> Result<Option<Call>, AllocError>
-    ensures { Reads (one_part (undone Name not.now) start end parts.now) faults.old faults.new result }
-{
-    let Some((first, more)) = parted(parts) else {
-        faults.lacking(alloc, end);
-        return Ok(None);
-    };
-    let call = read_undone(alloc, Sort::Name, not, first, faults)?;
-    let none_left = more.is_empty();
-    Ok(provided(alloc, none_left, start, call, faults))
-}
-
 /// `(not (NAME name ..))`.
 fn read_false_atom(
     alloc: Global,
@@ -155,7 +134,7 @@ fn read_false_atom(
 ) -> Result<Option<InitAst>, AllocError>
     ensures { Reads (init_spec.false_atom start end head.now parts.now) faults.old faults.new result }
 {
-    let call = read_only_atom(alloc, start, end, head, parts, faults)?;
+    let call = read_undone(alloc, Sort::Name, start, end, head, parts, faults)?;
     Ok(make_put(false, start, call))
 }
 

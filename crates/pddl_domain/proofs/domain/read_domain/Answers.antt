@@ -1,9 +1,12 @@
 use Rattle.std.proofs.Common.{Option, subst}
 use Rattle.pddl_form.specs.declared.fault.Fault.{Fault}
 use Rattle.pddl_form.specs.Reading.{IsRead}
-use Rattle.pddl_form.proofs.Concluding.{answers}
+use Rattle.pddl_form.proofs.Concluding.{answers, has_outcome}
 use Rattle.pddl_domain.specs.Domain.{domain_form}
 use Rattle.pddl_domain.proofs.domain.read_domain.Goals as goal
+
+pub conclude-requires : goal.conclude-requires
+conclude-requires c = has_outcome _ _ _ (subst (λ (o : Option Fault). IsRead (domain_form c.args.tree.now) o c.read_form.new.faults c.in-Ok.made) c.new-faults.ensures c.in-Ok.ensures)
 
 pub returns-in-Ok : goal.returns-in-Ok
 returns-in-Ok c =

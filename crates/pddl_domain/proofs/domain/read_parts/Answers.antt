@@ -1,5 +1,6 @@
 use Rattle.pddl_domain.specs.Domain.{domain_parts, types_section, constants_section}
-use Rattle.pddl_domain.proofs.Domains.{whole_read, tested_read}
+use Rattle.pddl_form.proofs.SectionLaws.{tested_read}
+use Rattle.pddl_domain.proofs.Domains.{whole_read}
 use Rattle.pddl_domain.proofs.domain.read_parts.Goals as goal
 
 pub returns : goal.returns

@@ -1,5 +1,6 @@
 use Rattle.pddl_problem.specs.Problem.{problem_parts}
-use Rattle.pddl_problem.proofs.ProblemLaws.{whole_read, tested_read}
+use Rattle.pddl_form.proofs.SectionLaws.{tested_read}
+use Rattle.pddl_problem.proofs.ProblemLaws.{whole_read}
 use Rattle.pddl_problem.proofs.problem.read_parts.Goals as goal
 
 pub returns : goal.returns
