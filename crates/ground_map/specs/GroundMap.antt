@@ -1,5 +1,5 @@
 -- Values of ground things. A ground thing is a head with its arguments, all of them numbers, as (at l1).
-use Rattle.std.specs.Prelude.{◌≡◌, ℕ, Bool, List, [], ◌==◌, ◌&&◌, nat_eq, Option, Some, None, length, slice_index_or, if◌then◌else◌}
+use Rattle.std.specs.Prelude.{◌≡◌, ℕ, Bool, List, [], ◌==◌, ◌&&◌, ◌≤◌, nat_eq, Option, Some, None, length, slice_index_or, if◌then◌else◌}
 use Rattle.std.specs.Cmp.Lexicographic.{pointwise}
 use Rattle.std.specs.Map.{lookup}
 
@@ -25,3 +25,8 @@ module _ {V : Type 0} where
   pub record IsPut (old new : List (List (List ℕ × V))) (head : ℕ) (args : List ℕ) (value : V) : Type 0 where
     pub heads : length new ≡ length old
     pub values : (h : ℕ) (xs : List ℕ) → value_at new h xs ≡ (if h == head && same_args xs args then Some value else value_at old h xs)
+
+  -- no head less, and the same value everywhere
+  pub record Keeps (old new : List (List (List ℕ × V))) : Type 0 where
+    pub heads : length old ≤ length new
+    pub values : (head : ℕ) (args : List ℕ) → value_at new head args ≡ value_at old head args

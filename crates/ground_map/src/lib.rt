@@ -6,7 +6,7 @@
 
 mod map;
 
-pub use map::GroundMap;
+pub use map::{GroundMap, Listed};
 
 #[cfg(test)]
 mod tests;

@@ -1,0 +1,6 @@
+use Rattle.std.proofs.Common.{take}
+use Rattle.pddl_task.specs.Task.{is_changing_func, AreFlags}
+use Rattle.pddl_task.proofs.task.changing_funcs.Given as goal
+
+abbrev pub invariant-loop-action : goal.invariant-loop-action
+invariant-loop-action l = AreFlags l.flags.items (is_changing_func (take l.action-index l.actions)) l.count

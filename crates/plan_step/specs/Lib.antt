@@ -1,0 +1,17 @@
+pub mod State
+pub mod Held
+pub mod Start
+pub mod Met
+pub mod Evaluation
+pub mod Order
+pub mod Conditions
+pub mod Effects
+pub mod Touches
+pub mod Application
+pub mod Making
+pub mod Fitting
+pub mod Repeat
+pub mod Laws
+pub mod Sums
+pub mod Step
+pub mod Meaning

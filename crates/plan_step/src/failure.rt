@@ -1,0 +1,51 @@
+//! Failures of a step, and of a repetition.
+ghost use Rattle.std.specs.Prelude.{◌≡◌};
+
+use frac128::Wide;
+use std::alloc::AllocError;
+
+/// Why an instance has no step from a state. Leaves are numbered from 0, in text order.
+#[derive(Debug, Drop)]
+pub enum StepFail {
+    /// The action isn't there, or takes another number of arguments.
+    Arity,
+    /// An argument isn't an object, or isn't of its parameter's types.
+    ArgType,
+    /// This leaf of the condition is the first that doesn't hold.
+    Condition(u32),
+    /// This leaf of the effect is the first that needs a value that isn't there.
+    NoValue(u32),
+    /// This leaf of the effect is the first that changes a function which an earlier one changes, not both by
+    /// `increase` or `decrease`.
+    Clash(u32),
+    /// This operation of the evaluation passes 128 bits.
+    Wide(Wide),
+    Memory,
+}
+
+impl From<AllocError> for StepFail {
+    ghost use Rattle.plan_step.specs.declared.failure.StepFail.TheVariants as fail;
+
+    ghost from_gives = { λ _ e. e ≡ fail.Memory };
+
+    fn from(_error: AllocError) -> StepFail {
+        StepFail::Memory
+    }
+}
+
+impl From<Wide> for StepFail {
+    ghost use Rattle.plan_step.specs.declared.failure.StepFail.TheVariants as fail;
+
+    ghost from_gives = { λ w e. e ≡ fail.Wide w };
+
+    fn from(wide: Wide) -> StepFail {
+        StepFail::Wide(wide)
+    }
+}
+
+/// The first repetition that fails, from 1, and why. Where memory is wanting `at` says nothing.
+#[derive(Debug, Drop)]
+pub struct RepeatFail {
+    pub at: u128,
+    pub fail: StepFail,
+}

@@ -1,0 +1,29 @@
+//! States of a plan and the steps of instances, by definition. Begin with `step`; `State` has the atoms and the values,
+//! `evaluate` the value of an expression, `goal` the test of the goal, and `repeat` makes so many steps in turn.
+#![tactic(auto)]
+
+mod application;
+mod clashes;
+mod conditions;
+mod evaluation;
+mod failure;
+mod instance;
+pub mod laws;
+mod reading;
+mod repeating;
+mod state;
+mod stepping;
+mod terms;
+mod touches;
+
+pub use conditions::goal;
+pub use evaluation::evaluate;
+pub use failure::{RepeatFail, StepFail};
+pub use repeating::repeat;
+pub use state::State;
+pub use stepping::step;
+
+#[cfg(test)]
+mod step_rows;
+#[cfg(test)]
+mod tests;

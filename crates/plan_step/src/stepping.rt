@@ -1,0 +1,87 @@
+//! One step of an instance. Begin with `step`; `make` does what comes behind the tests of the instance.
+ghost use Rattle.std.specs.Prelude.{◌<◌, ◌^◌, length, map, IfOk, IsTrue};
+ghost use Rattle.plan_step.specs.Held.{state_of, KeepsPlaces};
+ghost use Rattle.plan_step.specs.Step.{made_by, step_from};
+ghost use Rattle.plan_step.specs.Fitting.{targets_of};
+ghost use Rattle.plan_step.specs.Touches.{target_in, DiffersIn};
+ghost use Rattle.plan_step.specs.Making.{Makes, WasBefore};
+
+use crate::application::{apply, make_places};
+use crate::clashes::test_clashes;
+use crate::conditions::test_conditions;
+use crate::failure::StepFail;
+use crate::instance::fitting_action;
+use crate::state::State;
+use crate::touches::{Touch, touches_of};
+use pddl_task::{Action, Instance, Task};
+use sqlite_items::Items;
+use std::alloc::Global;
+
+/// Whether each leaf of the action has a number.
+fn is_countable(action: &Action) -> bool
+    ensures conds { IsTrue result → length action.now.conds < 2 ^ 32 }
+    ensures effs { IsTrue result → length action.now.effs < 2 ^ 32 }
+{
+    let most = u32::MAX as usize;
+    action.conds.len() <= most && action.effs.len() <= most
+}
+
+/// Makes a step of an instance of the action, at arguments of its types. The touches tell the state before it. More leaves
+/// than have a number would take more memory than there is, and are answered so.
+pub(crate) fn make(
+    alloc: Global,
+    state: &mut State,
+    action: &Action,
+    args: &[u32],
+) -> Result<Items<Touch>, StepFail>
+    ensures made { Makes (made_by (state_of state.old) action.now args.now) (state_of state.old) (state_of state.new) result }
+    ensures before { IfOk result (WasBefore (map (target_in args.now) action.now.effs) (state_of state.old) state.new) }
+    ensures keeps { KeepsPlaces state.old state.new }
+{
+    if !is_countable(action) {
+        return Err(StepFail::Memory);
+    }
+    test_conditions(state, args, action.conds.as_slice())?;
+    let touches = touches_of(alloc, state, args, action.effs.as_slice())?;
+    test_clashes(alloc, touches.as_slice())?;
+    make_places(state, touches.as_slice())?;
+    apply(state, touches.as_slice())?;
+    Ok(touches)
+}
+
+/// The same of any instance.
+pub(crate) fn make_step(
+    alloc: Global,
+    task: &Task,
+    state: &mut State,
+    by: &Instance,
+) -> Result<Items<Touch>, StepFail>
+    ensures made { Makes (step_from task.now (state_of state.old) by.now) (state_of state.old) (state_of state.new) result }
+    ensures before { IfOk result (WasBefore (targets_of task.now by.now) (state_of state.old) state.new) }
+    ensures keeps { KeepsPlaces state.old state.new }
+{
+    let action = fitting_action(task, by)?;
+    make(alloc, state, action, by.args.as_slice())
+}
+
+/// Makes one step, which changes at most what the instance touches.
+pub(crate) fn step_on(
+    alloc: Global,
+    task: &Task,
+    state: &mut State,
+    by: &Instance,
+) -> Result<(), StepFail>
+    ensures made { Makes (step_from task.now (state_of state.old) by.now) (state_of state.old) (state_of state.new) result }
+    ensures differs { DiffersIn (targets_of task.now by.now) (state_of state.old) (state_of state.new) }
+    ensures keeps { KeepsPlaces state.old state.new }
+{
+    make_step(alloc, task, state, by)?;
+    Ok(())
+}
+
+/// Makes one step. After a failure the state is as before.
+pub fn step(alloc: Global, task: &Task, state: &mut State, by: &Instance) -> Result<(), StepFail>
+    ensures { Makes (step_from task.now (state_of state.old) by.now) (state_of state.old) (state_of state.new) result }
+{
+    step_on(alloc, task, state, by)
+}

@@ -1,0 +1,38 @@
+//! The objects that the terms of a call stand for, at the arguments of an instance.
+ghost use Rattle.std.specs.Prelude.{◌≡◌, ◌≤◌, length, take, IfOk};
+ghost use Rattle.plan_step.specs.Evaluation.{object_of, objects_of};
+
+use pddl_task::Term;
+use sqlite_items::Items;
+use std::alloc::{AllocError, Global};
+
+/// The object of one term.
+pub(crate) fn object(args: &[u32], term: Term) -> u32
+    ensures { result ≡ object_of args.now term }
+{
+    match term {
+        Term::Param(p) => args.get(p as usize).copied().unwrap_or(0),
+        Term::Object(o) => o,
+    }
+}
+
+/// Writes the objects to the front of a part of memory.
+pub(crate) fn write_objects(args: &[u32], terms: &[Term], into: &mut [u32])
+    requires { length terms.now ≤ length into.old }
+    ensures { take (length terms.now) into.new ≡ objects_of args.now terms.now }
+{
+    for (i, term) in terms.iter().enumerate() {
+        into[i] = object(args, *term);
+    }
+}
+
+/// A list of the objects.
+pub(crate) fn objects(alloc: Global, args: &[u32], terms: &[Term]) -> Result<Items<u32>, AllocError>
+    ensures { IfOk result (λ objects. objects ≡ objects_of args.now terms.now) }
+{
+    let mut objects = Vec::with_capacity(alloc, terms.len())?;
+    for term in terms {
+        objects.push(object(args, *term))?;
+    }
+    Ok(Items::from_vec(objects))
+}
