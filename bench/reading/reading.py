@@ -1,9 +1,9 @@
 """Makes texts of several sizes and shapes, runs the built planner on each, and prints time and memory."""
 import os
-import subprocess
 import sys
 import tempfile
-import time
+
+import measuring
 
 PROGRAM = "crates/patty/out/patty"
 MEGABYTE = 1_000_000
@@ -85,11 +85,8 @@ def measured(shape, size):
     with tempfile.TemporaryDirectory() as folder:
         domain, problem = os.path.join(folder, "d"), os.path.join(folder, "p")
         length = shape(domain, problem, size)
-        start = time.monotonic()
-        child = subprocess.Popen([PROGRAM, domain, problem, "--max-n", "0"], stdout=subprocess.DEVNULL)
-        _, status, usage = os.wait4(child.pid, 0)
-        seconds = time.monotonic() - start
-        return length, seconds, usage.ru_maxrss / 1000, os.waitstatus_to_exitcode(status)
+        seconds, peak, status, _ = measuring.run([PROGRAM, domain, problem, "--max-n", "0"])
+        return length, seconds, peak, status
 
 
 def main():

@@ -9,12 +9,14 @@ use crate::integer::{is_half, times_halves};
 use std::cmp::Ordering;
 
 impl Frac {
+    /// Exact, whatever the size of the two.
     pub fn cmp(&self, y: &Frac) -> Ordering
         ensures { Compares self.now y.now result }
     {
         compare_cross(self.num(), self.den(), y.num(), y.den())
     }
 
+    /// The greatest whole number that isn't above it.
     pub fn floor(&self) -> i128
         ensures { IsFloor self.now result }
     {

@@ -16,6 +16,7 @@ use crate::text::{NumFault, signed};
 const MOST_PLACES: usize = 38;
 
 impl Frac {
+    /// Reads an optional `-`, one or more digits, and optionally `.` with one or more digits.
     pub fn from_decimal(text: &[u8]) -> Result<Frac, NumFault>
         ensures reads { ReadsDecimal text.now result }
         ensures number { result_ok result ≡ number_of text.now }

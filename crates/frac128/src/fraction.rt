@@ -9,6 +9,7 @@ ghost use Rattle.frac128.specs.Bounds.{IsWithin};
 use crate::integer::reduced;
 use std::marker::Model;
 
+/// A fraction in lowest terms: a denominator of at least 1, and both numbers of a magnitude of at most 2^127 - 1.
 #[derive(Clone, Copy, PartialEq, Eq, Debug)]
 pub struct Frac {
     num: i128,
@@ -35,6 +36,7 @@ impl Model for Frac {
 }
 
 impl Frac {
+    /// The numerator, which has the fraction's sign.
     pub fn num(&self) -> i128
         ensures value { result ≡ self.now.num }
         ensures within { IsWithin result }
@@ -42,6 +44,7 @@ impl Frac {
         self.num
     }
 
+    /// The denominator, at least 1.
     pub fn den(&self) -> i128
         ensures value { result ≡ pos self.now.den }
         ensures within { IsWithin result }
@@ -71,6 +74,7 @@ impl Frac {
         lowest(num, den)
     }
 
+    /// The negative, which always fits.
     pub fn neg(&self) -> Frac
         ensures { result ≡ neg_ℚ self.now }
     {
@@ -88,6 +92,7 @@ impl Frac {
         }
     }
 
+    /// Whether the denominator is 1.
     pub fn is_whole(&self) -> bool
         ensures { IsTrue result ↔ (self.now.den ≡ 1) }
     {

@@ -11,14 +11,17 @@ pub fn reads_what_is_written()
     ensures { ReadsWhatIsWritten }
 {}
 
+/// What reading a fraction answers is fixed by its text.
 pub fn fraction_text_has_one_answer()
     ensures { FractionTextHasOneAnswer }
 {}
 
+/// What reading a decimal answers is fixed by its text.
 pub fn decimal_has_one_answer()
     ensures { DecimalHasOneAnswer }
 {}
 
+/// What an operation answers is fixed by its operands.
 pub fn operation_has_one_answer()
     ensures { OperationHasOneAnswer }
 {}

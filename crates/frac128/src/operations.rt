@@ -10,6 +10,7 @@ use crate::fraction::{Frac, lowest, whole_number};
 use crate::gcd::divisor;
 use crate::integer::{plus, reduced, shrink, times};
 
+/// An operation on two fractions.
 #[derive(Clone, Copy, PartialEq, Eq, Debug)]
 pub enum Op {
     Add,
@@ -27,24 +28,28 @@ pub struct Wide {
 }
 
 impl Frac {
+    /// The sum, or the operation where a number that it names passes 128 bits.
     pub fn add(&self, y: &Frac) -> Result<Frac, Wide>
         ensures { Answers Op.Add self.now y.now result }
     {
         sum(self, y).ok_or(refusal(Op::Add, self, y))
     }
 
+    /// The difference: the sum with the negative, answered as `Sub` with the operands as they were given.
     pub fn sub(&self, y: &Frac) -> Result<Frac, Wide>
         ensures { Answers Op.Sub self.now y.now result }
     {
         sum(self, &y.neg()).ok_or(refusal(Op::Sub, self, y))
     }
 
+    /// The product; common factors are divided out first.
     pub fn mul(&self, y: &Frac) -> Result<Frac, Wide>
         ensures { Answers Op.Mul self.now y.now result }
     {
         product(self, y).ok_or(refusal(Op::Mul, self, y))
     }
 
+    /// The quotient: the product with the inverse, answered as `Div` with the operands as they were given.
     pub fn div(&self, y: &Frac) -> Result<Frac, Wide>
         requires { y.now.num ≢ pos 0 }
         ensures { Answers Op.Div self.now y.now result }

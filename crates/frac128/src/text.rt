@@ -21,6 +21,7 @@ pub enum NumFault {
 }
 
 impl Frac {
+    /// Appends `n`, or `n/d` where the denominator is 2 or more.
     pub fn to_text(&self, into: &mut Vec<u8>) -> Result<(), AllocError>
         ensures ok { OnOk result (into.new.items ≡ into.old.items ++ text_of self.now) }
         ensures err { OnErr result (into.new.items ≡ into.old.items) }

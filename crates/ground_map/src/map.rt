@@ -32,9 +32,11 @@ pub trait Listed {
 
     ghost items: { Self → List ℕ };
 
+    /// How many there are.
     fn len(&self) -> usize
         ensures { result ≡ length (items self.now) };
 
+    /// The one at a place.
     fn at(&self, i: usize) -> u32
         requires { i < length (items self.now) }
         ensures { result ≡ slice_index (items self.now) i };
@@ -117,7 +119,7 @@ impl<V: Copy> GroundMap<V> {
         find_listed(self.tables.get(head as usize)?, args)
     }
 
-    /// Makes the head one of the heads, if it isn't.
+    /// Makes the head one of the heads, if it isn't. After want of memory there may be more heads than before.
     pub fn include(&mut self, head: u32) -> Result<(), AllocError>
         ensures ok { OnOk result (head < length self.new) }
         ensures keeps { Keeps self.old self.new }

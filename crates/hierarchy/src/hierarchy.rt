@@ -68,6 +68,7 @@ impl Hierarchy {
         self.parents.len()
     }
 
+    /// The type above.
     pub fn parent(&self, t: u32) -> u32
         requires { t < length self.now }
         ensures value { result ≡ parent_of self.now t }
@@ -98,6 +99,7 @@ impl Hierarchy {
         at == u
     }
 
+    /// Whether the type stands above itself: it is on a circle.
     pub fn is_own_ancestor(&self, t: u32) -> bool
         requires { t < length self.now }
         ensures { result ≡ is_own_ancestor self.now t }

@@ -9,11 +9,13 @@ pub fn is_below_is_the_relation()
     ensures complete { (parents : List ℕ) (t u : ℕ) → IsHierarchy parents → t < length parents → IsBelow parents t u → IsTrue (is_below parents t u) }
 {}
 
+/// Each type is its own, or below it.
 #[tactic(auto, using(crate::proofs::BelowLaws::reflexive))]
 pub fn is_below_is_reflexive()
     ensures { (parents : List ℕ) (t : ℕ) → IsTrue (is_below parents t t) }
 {}
 
+/// What is below a type that is below another is below that.
 #[tactic(auto, using(crate::proofs::BelowLaws::transitive))]
 pub fn is_below_is_transitive()
     ensures { (parents : List ℕ) (t u v : ℕ) → IsHierarchy parents → t < length parents → IsTrue (is_below parents t u) → IsTrue (is_below parents u v)

@@ -29,6 +29,7 @@ impl Model for NameTable {
 }
 
 impl NameTable {
+    /// A table without a name. Takes no memory.
     pub fn new(alloc: Global) -> NameTable
         ensures { result ≡ [] }
     {

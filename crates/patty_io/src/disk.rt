@@ -21,6 +21,7 @@ pub struct DiskShelf<'a, R: Files> {
 }
 
 impl<'a, R: Files> DiskShelf<'a, R> {
+    /// A shelf over the files of the system, none of which has failed yet.
     pub fn new(rt: &'a R, alloc: Global) -> DiskShelf<'a, R>
         ensures untold { (name : List ℕ) → ⟦<DiskShelf<'a, R> as Shelf>⟧.content result name ≡ None }
         ensures faults { (name : List ℕ) → ⟦<DiskShelf<'a, R> as Shelf>⟧.faults result name ≡ 0 }

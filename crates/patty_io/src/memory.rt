@@ -29,6 +29,7 @@ pub struct MemSink {
 }
 
 impl MemSink {
+    /// A sink whose calls with these numbers, from 1, fail.
     pub fn new(alloc: Global, fails: Vec<u64>) -> MemSink
         ensures written { ⟦<MemSink as Sink>⟧.written result ≡ Some [] }
         ensures faults { ⟦<MemSink as Sink>⟧.faults result ≡ 0 }
@@ -81,6 +82,7 @@ pub struct SureSink {
 }
 
 impl SureSink {
+    /// A sink that never fails.
     pub fn new(alloc: Global) -> SureSink
         ensures { ⟦<SureSink as Sink>⟧.written result ≡ Some [] }
     {
@@ -122,6 +124,7 @@ pub struct MemShelf {
 }
 
 impl MemShelf {
+    /// These files; the calls with these numbers, from 1, fail.
     pub fn new(alloc: Global, files: Vec<NamedBytes>, fails: Vec<u64>) -> MemShelf
         ensures content { (name : List ℕ) → ⟦<MemShelf as Shelf>⟧.content result name ≡ file_of files.items name }
         ensures faults { (name : List ℕ) → ⟦<MemShelf as Shelf>⟧.faults result name ≡ 0 }

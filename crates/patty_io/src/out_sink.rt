@@ -15,6 +15,7 @@ pub struct OutSink<'a, R: Print> {
 }
 
 impl<'a, R: Print> OutSink<'a, R> {
+    /// A sink over the standard output.
     pub fn new(rt: &'a R) -> OutSink<'a, R>
         ensures untold { ⟦<OutSink<'a, R> as Sink>⟧.written result ≡ None }
         ensures faults { ⟦<OutSink<'a, R> as Sink>⟧.faults result ≡ 0 }

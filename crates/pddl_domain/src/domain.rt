@@ -8,14 +8,16 @@ ghost use Rattle.pddl_form.specs.Concluded.{Answers};
 ghost use Rattle.pddl_form.specs.Laws.{HasOneSyntax};
 ghost use Rattle.pddl_form.specs.Reading.{Reads};
 ghost use Rattle.pddl_form.specs.SectionParts.{parts_of};
+ghost use Rattle.pddl_form.specs.Sections.{section_word};
 ghost use Rattle.pddl_domain.specs.Domain as domain;
 ghost use Rattle.pddl_domain.specs.inside.Made.{whole_made};
 
 use crate::action::{ActionAst, read_action};
 use crate::head::{Head, read_functions, read_predicates};
 use pddl_form::{
-    Definition, FirstFault, Sort, Spot, Typed, add, conclude, find_section, open_definition,
-    read_requirements, read_section_words, read_title, read_typed_list, section_behind,
+    Definition, FirstFault, SectionWord, Sort, Spot, Typed, add, conclude, find_section,
+    open_definition, read_requirements, read_section_words, read_title, read_typed_list,
+    section_behind,
 };
 use sexpr::{Source, TextRefusal, Tree};
 use sqlite_items::Items;
@@ -36,11 +38,11 @@ pub struct DomainAst {
 #[tactic(auto, unfolding(pddl_form::specs::Judged::noted))]
 fn read_names(
     alloc: Global,
-    word: &str,
+    word: SectionWord,
     sections: &[Tree],
     faults: &mut FirstFault,
 ) -> Result<Option<Items<Typed>>, AllocError>
-    ensures { Reads (domain.listed domain.names_in word.now sections.now) faults.old faults.new result }
+    ensures { Reads (domain.listed domain.names_in (section_word word) sections.now) faults.old faults.new result }
 {
     match find_section(sections, word) {
         Some(section) => read_typed_list(alloc, Sort::Name, section.end, section.parts, faults),
@@ -56,7 +58,7 @@ fn read_predicates_section(
 ) -> Result<Option<Items<Head>>, AllocError>
     ensures { Reads (domain.predicates_section sections.now) faults.old faults.new result }
 {
-    match find_section(sections, ":predicates") {
+    match find_section(sections, SectionWord::Predicates) {
         Some(section) => read_predicates(alloc, section.parts, faults),
         None => Ok(Some(Items::new(alloc))),
     }
@@ -70,7 +72,7 @@ fn read_functions_section(
 ) -> Result<Option<Items<Head>>, AllocError>
     ensures { Reads (domain.functions_section sections.now) faults.old faults.new result }
 {
-    match find_section(sections, ":functions") {
+    match find_section(sections, SectionWord::Functions) {
         Some(section) => read_functions(alloc, section.end, section.parts, faults),
         None => Ok(Some(Items::new(alloc))),
     }
@@ -87,7 +89,7 @@ fn read_actions(
 {
     let mut found = Some(Items::new(alloc));
     for tree in sections {
-        let Some(section) = section_behind(tree, ":action") else {
+        let Some(section) = section_behind(tree, SectionWord::Action) else {
             continue;
         };
         let one = read_action(alloc, section.end, section.parts, faults)?;
@@ -127,9 +129,9 @@ fn read_parts(
     let sections = definition.sections;
     let known = read_section_words(alloc, Source::Domain, sections, faults)?;
     let requirements = read_requirements(alloc, sections, faults)?;
-    let name = read_title(alloc, "domain", definition.title, faults)?;
-    let types = read_names(alloc, ":types", sections, faults)?;
-    let constants = read_names(alloc, ":constants", sections, faults)?;
+    let name = read_title(alloc, Source::Domain, definition.title, faults)?;
+    let types = read_names(alloc, SectionWord::Types, sections, faults)?;
+    let constants = read_names(alloc, SectionWord::Constants, sections, faults)?;
     let preds = read_predicates_section(alloc, sections, faults)?;
     let funcs = read_functions_section(alloc, sections, faults)?;
     let actions = read_actions(alloc, sections, faults)?;

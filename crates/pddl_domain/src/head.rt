@@ -1,13 +1,16 @@
 //! Declared predicates and functions. Begin with `read_head`.
-ghost use Rattle.std.specs.Prelude.{◌≡◌, map};
+ghost use Rattle.std.specs.Prelude.{◌≡◌, codes, map};
+ghost use Rattle.kw_table.specs.Table.{Rises};
 ghost use Rattle.pddl_form.specs.Judged.{each, mapped};
 ghost use Rattle.pddl_form.specs.Reading.{Reads};
 ghost use Rattle.pddl_form.specs.Typed.{typed_list};
+ghost use Rattle.pddl_form.specs.Words.{is_word};
 ghost use Rattle.pddl_form.specs.declared.names.Sort.TheVariants.{Variable};
 ghost use Rattle.pddl_domain.specs.Heads as heads;
 
+use kw_table::{Table, rows};
 use pddl_form::{
-    FirstFault, Sort, Spot, Typed, add, add_all, is_symbol, is_word, make_spot, parted, provided,
+    FirstFault, Sort, Spot, Typed, add, add_all, is_dash, is_symbol, make_spot, parted, provided,
     read_typed_list, word,
 };
 use sexpr::Tree;
@@ -77,6 +80,24 @@ pub fn read_predicates(
     Ok(found)
 }
 
+/// The type of functions.
+const NUMBER: Table<1> = Table { words: ["number"] };
+
+/// The table of this one word is in byte order.
+pub fn number_rises()
+    ensures { Rises (map (λ w. w.now) NUMBER.words) }
+{}
+
+fn is_number(tree: &Tree) -> bool
+    ensures { result ≡ is_word (codes "number") tree.now }
+{
+    rows! {
+        NUMBER, word(tree).as_bytes();
+        "number" => true;
+        else => false
+    }
+}
+
 /// The word `number`, which adds no function.
 #[tactic(auto, unfolding(pddl_form::specs::Judged::noted, crate::specs::Heads::number_mark))]
 fn read_number_mark(
@@ -90,7 +111,7 @@ fn read_number_mark(
         faults.misshapen(alloc, tree.start());
         return Ok(None);
     };
-    if is_word("number", tree) {
+    if is_number(tree) {
         return Ok(Some(Items::new(alloc)));
     }
     faults.feature(alloc, tree.start(), word(tree))?;
@@ -112,7 +133,7 @@ pub fn read_functions(
     let mut waits = false;
     let mut rest = trees;
     while let Some((tree, behind)) = parted(rest) {
-        if is_word("-", tree) {
+        if is_dash(tree) {
             let so_far = provided(alloc, waits, tree.start(), found, faults);
             found = so_far;
             let Some((second, more)) = parted(behind) else {

@@ -1,10 +1,10 @@
 -- The flags of the words that sections start with.
 use Rattle.std.proofs.Common.{◌≡◌, ℕ, zero, suc, Bool, true, false, List, [], ◌∷◌, set, Option, Some, None, Result, inl, inr, refl, sym, ◌∙◌, ap, subst}
-use Rattle.std.specs.Prelude.{IsTrue, bytes_eq, slice_get, not, ◌&&◌, ◌||◌, if◌then◌else◌}
+use Rattle.std.specs.Prelude.{IsTrue, bytes_eq, nat_eq, slice_get, not, ◌&&◌, ◌||◌, if◌then◌else◌}
 use Rattle.std.specs.List.{list_all}
-use Rattle.std.specs.Option.{is_some}
-use Rattle.std.proofs.lemmas.Bool.{cases_eq}
-use Rattle.kw_table.specs.Table.{IsAbsent}
+use Rattle.std.specs.Option.{is_some, option_eq}
+use Rattle.std.proofs.lemmas.Bool.{cases_eq, eq-eqb, ne_eqb}
+use Rattle.kw_table.specs.Table.{IsAbsent, Finds}
 use Rattle.sexpr.specs.declared.tree.Tree.{Tree, out-Tree}
 use Rattle.sexpr.specs.declared.tree.Tree.TheOpen.{Tree-F}
 use Rattle.std.specs.declared.alloc.AllocError.{AllocError}
@@ -51,6 +51,18 @@ same_place (v ∷ words) zero zero w once is_i is_j = refl
 same_place (v ∷ words) zero (suc j) w once is_i is_j = absurd (repeated words v w j (and_first (not (is_one_of words v)) (no_repeats words) once) (cc is_i) is_j)
 same_place (v ∷ words) (suc i) zero w once is_i is_j = absurd (repeated words v w i (and_first (not (is_one_of words v)) (no_repeats words) once) (cc is_j) is_i)
 same_place (v ∷ words) (suc i) (suc j) w once is_i is_j = ap suc (same_place words i j w (and_second (not (is_one_of words v)) (no_repeats words) once) is_i is_j)
+
+-- the word that was found is the one at a place, or another
+pub at_place : (words : List (List ℕ)) (found : Option ℕ) (at : ℕ) (word text bytes : List ℕ) → no_repeats words ≡ true → slice_get words at ≡ Some word → Finds words bytes found → bytes ≡ text
+    → option_eq nat_eq found (Some at) ≡ bytes_eq text word
+at_place words None at word text bytes once is absent same = sym (other_word text word (λ eq. isnt words bytes word absent (has_word words at word is) (sym (same ∙ eq))))
+at_place words (Some i) at word text bytes once is here same = elim (cases_eq i at) [
+  | inl eq ↦
+      let whole : Some bytes ≡ Some word = sym here ∙ ap (slice_get words) eq ∙ is in
+      let there : bytes ≡ word = cc in
+      eq-eqb i at eq ∙ sym (same_word text word (sym same ∙ there))
+  | inr other ↦ ne_eqb i at other ∙ sym (other_word text word (λ eq. other (same_place words i at word once (here ∙ ap Some (same ∙ eq)) is)))
+]
 
 -- ---- one more section
 

@@ -10,6 +10,8 @@ use Rattle.sexpr.specs.Opened.{text_of, start_of}
 use Rattle.pddl_form.specs.declared.names.Sort.TheVariants.{Name, Keyword}
 use Rattle.pddl_form.specs.declared.sections.Kind.{Kind}
 use Rattle.pddl_form.specs.declared.sections.Kind.TheVariants.{Many, Once, Unread, Unknown}
+use Rattle.pddl_form.specs.declared.sections.SectionWord.{SectionWord}
+use Rattle.pddl_form.specs.declared.sections.SectionWord.TheVariants as section
 use Rattle.pddl_form.specs.declared.spot.Spot.{Spot}
 use Rattle.pddl_form.specs.Judged.{Judged, good, bad, misshapen, lacking, unread_feature, mapped, both}
 use Rattle.pddl_form.specs.Gather.{push}
@@ -75,6 +77,26 @@ section_words =
     codes ":action" ∷ codes ":constants" ∷ codes ":constraints" ∷ codes ":derived" ∷ codes ":domain" ∷ codes ":durative-action" ∷ codes ":event" ∷ codes ":functions" ∷ codes ":goal"
     ∷ codes ":init" ∷ codes ":length" ∷ codes ":metric" ∷ codes ":objects" ∷ codes ":predicates" ∷ codes ":process" ∷ codes ":requirements" ∷ codes ":types" ∷ []
 
+-- the word that each stands for
+abbrev pub section_word : SectionWord → List ℕ
+section_word section.Action = codes ":action"
+section_word section.Constants = codes ":constants"
+section_word section.Constraints = codes ":constraints"
+section_word section.Derived = codes ":derived"
+section_word section.Domain = codes ":domain"
+section_word section.DurativeAction = codes ":durative-action"
+section_word section.Event = codes ":event"
+section_word section.Functions = codes ":functions"
+section_word section.Goal = codes ":goal"
+section_word section.Init = codes ":init"
+section_word section.Length = codes ":length"
+section_word section.Metric = codes ":metric"
+section_word section.Objects = codes ":objects"
+section_word section.Predicates = codes ":predicates"
+section_word section.Process = codes ":process"
+section_word section.Requirements = codes ":requirements"
+section_word section.Types = codes ":types"
+
 -- those that may stand many times
 abbrev pub many : Source → List (List ℕ)
 many source.Domain = codes ":action" ∷ []
@@ -136,6 +158,11 @@ requirements_in c = mapped no_effect (word_forms Keyword c.parts)
 -- the section `(:requirements WORD ..)`, which may be left out
 unfoldable pub requirements_form : List Tree → Tested
 requirements_form sections = contents_or fine requirements_in (section_with (codes ":requirements") sections)
+
+-- the word in the title of a text
+abbrev pub title_word : Source → List ℕ
+title_word source.Domain = codes "domain"
+title_word source.Problem = codes "problem"
 
 abbrev pub title_list : List ℕ → ℕ → ℕ → List Tree → Judged Spot
 title_list kind start end [] = lacking end

@@ -38,12 +38,14 @@ impl Model for FirstFault {
 }
 
 impl FirstFault {
+    /// No fault yet.
     pub fn new() -> FirstFault
         ensures { result ≡ None }
     {
         FirstFault { first: None }
     }
 
+    /// The first of those that were noted.
     pub fn into_first(self) -> Option<Fault>
         ensures { result ≡ self }
     {

@@ -24,11 +24,12 @@ pub use gather::{add, add_all, pair, parted, provided};
 pub use laws::{first_fault_is_least, one_condition, one_expression, unread_not_is_one_fault};
 pub use names::{Sort, is_symbol, reserved_words_rise, takes};
 pub use sections::{
-    Definition, Section, find_section, open_definition, read_only_name, read_requirements,
-    read_section_words, read_title, section_behind, section_words_rise,
+    Definition, Section, SectionWord, define_rises, find_section, open_definition, read_only_name,
+    read_requirements, read_section_words, read_title, section_behind, section_words_rise,
+    title_words_rise,
 };
-pub use spot::{Spot, is_word, make_spot, read_word, read_words, word};
-pub use typed::{Typed, read_typed_list};
+pub use spot::{Spot, make_spot, read_word, read_words, word};
+pub use typed::{Typed, is_dash, read_typed_list, type_words_rise};
 
 #[cfg(test)]
 mod tests;

@@ -2,7 +2,7 @@
 //!
 //! Begin with `open_definition`, which takes a text apart, then `read_section_words`, which judges the word of each
 //! section, and `find_section`, by which a reader of one section finds its contents.
-ghost use Rattle.std.specs.Prelude.{◌≡◌, List, map};
+ghost use Rattle.std.specs.Prelude.{◌≡◌, List, Some, codes, map, slice_get};
 ghost use Rattle.std.specs.Option.{option_map};
 ghost use Rattle.kw_table.specs.Table.{Rises};
 ghost use Rattle.sexpr.specs.declared.tree.Tree.{Tree};
@@ -10,7 +10,7 @@ ghost use Rattle.sexpr.specs.Opened.{text_of};
 ghost use Rattle.pddl_form.specs.Reading.{IsRead, Reads};
 ghost use Rattle.pddl_form.specs.Judged.{mapped};
 ghost use Rattle.pddl_form.specs.Parts.{one_part};
-ghost use Rattle.pddl_form.specs.Words.{word_form, word_forms};
+ghost use Rattle.pddl_form.specs.Words.{is_word, word_form, word_forms};
 ghost use Rattle.pddl_form.specs.declared.names.Sort.TheVariants.{Name, Keyword};
 ghost use Rattle.pddl_form.specs.Sections as sections_spec;
 ghost use Rattle.pddl_form.specs.SectionParts as parts;
@@ -19,7 +19,7 @@ ghost use Rattle.pddl_form.specs.inside.Seen as inside;
 use crate::fault::FirstFault;
 use crate::gather::{parted, provided};
 use crate::names::Sort;
-use crate::spot::{Spot, is_word, read_word, read_words, word};
+use crate::spot::{Spot, read_word, read_words, word};
 use kw_table::{Table, rows};
 use sexpr::{Source, Tree};
 use std::alloc::{AllocError, Global};
@@ -38,39 +38,6 @@ pub struct Definition<'a> {
     pub title: &'a Tree,
     pub sections: &'a [Tree],
     pub end: u32,
-}
-
-/// What stands behind a word, where the tree is a list that starts with it.
-#[tactic(auto, unfolding(crate::specs::Sections::contents_behind))]
-pub fn section_behind<'a>(tree: &'a Tree, wanted: &str) -> Option<Section<'a>>
-    ensures { option_map parts.contents_of result ≡ sections_spec.contents_behind wanted.now tree.now }
-{
-    let Tree::List { start, end, items } = tree else {
-        return None;
-    };
-    let [head, parts @ ..] = items.as_slice() else {
-        return None;
-    };
-    if !is_word(wanted, head) {
-        return None;
-    }
-    Some(Section {
-        start: *start,
-        end: *end,
-        parts,
-    })
-}
-
-/// The first section with a word.
-pub fn find_section<'a>(sections: &'a [Tree], wanted: &str) -> Option<Section<'a>>
-    ensures { option_map parts.contents_of result ≡ sections_spec.section_with wanted.now sections.now }
-{
-    for tree in sections {
-        if let Some(section) = section_behind(tree, wanted) {
-            return Some(section);
-        }
-    }
-    None
 }
 
 /// How many words there are.
@@ -102,6 +69,75 @@ const SECTIONS: Table<WORDS> = Table {
 pub fn section_words_rise()
     ensures { Rises (map (λ w. w.now) SECTIONS.words) }
 {}
+
+/// A word that a section starts with. They stand in the order of the table, so that the number of each is its index.
+#[derive(Clone, Copy, Debug, PartialEq, Eq)]
+pub enum SectionWord {
+    Action,
+    Constants,
+    Constraints,
+    Derived,
+    Domain,
+    DurativeAction,
+    Event,
+    Functions,
+    Goal,
+    Init,
+    Length,
+    Metric,
+    Objects,
+    Predicates,
+    Process,
+    Requirements,
+    Types,
+}
+
+/// The index of a word in the table.
+fn section_index(wanted: SectionWord) -> usize
+    ensures { slice_get sections_spec.section_words result ≡ Some (sections_spec.section_word wanted) }
+{
+    wanted as usize
+}
+
+/// Whether a tree is this word.
+fn is_section_word(wanted: SectionWord, head: &Tree) -> bool
+    ensures { result ≡ is_word (sections_spec.section_word wanted) head.now }
+{
+    SECTIONS.find(word(head).as_bytes()) == Some(section_index(wanted))
+}
+
+/// What stands behind a word, where the tree is a list that starts with it.
+#[tactic(auto, unfolding(crate::specs::Sections::contents_behind))]
+pub fn section_behind<'a>(tree: &'a Tree, wanted: SectionWord) -> Option<Section<'a>>
+    ensures { option_map parts.contents_of result ≡ sections_spec.contents_behind (sections_spec.section_word wanted) tree.now }
+{
+    let Tree::List { start, end, items } = tree else {
+        return None;
+    };
+    let [head, parts @ ..] = items.as_slice() else {
+        return None;
+    };
+    if !is_section_word(wanted, head) {
+        return None;
+    }
+    Some(Section {
+        start: *start,
+        end: *end,
+        parts,
+    })
+}
+
+/// The first section with a word.
+pub fn find_section<'a>(sections: &'a [Tree], wanted: SectionWord) -> Option<Section<'a>>
+    ensures { option_map parts.contents_of result ≡ sections_spec.section_with (sections_spec.section_word wanted) sections.now }
+{
+    for tree in sections {
+        if let Some(section) = section_behind(tree, wanted) {
+            return Some(section);
+        }
+    }
+    None
+}
 
 /// What the word of a section is.
 #[derive(Clone, Copy, Debug, PartialEq, Eq)]
@@ -321,7 +357,7 @@ pub fn read_requirements(
 ) -> Result<Option<()>, AllocError>
     ensures { Reads (sections_spec.requirements_form sections.now) faults.old faults.new result }
 {
-    match find_section(sections, ":requirements") {
+    match find_section(sections, SectionWord::Requirements) {
         Some(section) => read_requirement_words(alloc, section.parts, faults),
         None => Ok(Some(())),
     }
@@ -346,15 +382,38 @@ pub fn read_only_name(
     Ok(provided(alloc, none_left, start, name, faults))
 }
 
-/// `(KIND NAME)`.
+/// The words of titles.
+const TITLES: Table<2> = Table {
+    words: ["domain", "problem"],
+};
+
+/// The words of titles stand in byte order.
+pub fn title_words_rise()
+    ensures { Rises (map (λ w. w.now) TITLES.words) }
+{}
+
+/// Whether a tree is the word in the title of this text.
+fn is_title(file: Source, head: &Tree) -> bool
+    ensures { result ≡ is_word (sections_spec.title_word file) head.now }
+{
+    let found = rows! {
+        TITLES, word(head).as_bytes();
+        "domain" => Some(Source::Domain),
+        "problem" => Some(Source::Problem);
+        else => None
+    };
+    found == Some(file)
+}
+
+/// `(KIND NAME)`, where the kind is the word of this text.
 #[tactic(auto, unfolding(crate::specs::Sections::title_form, crate::specs::Judged::noted))]
 pub fn read_title(
     alloc: Global,
-    kind: &str,
+    file: Source,
     tree: &Tree,
     faults: &mut FirstFault,
 ) -> Result<Option<Spot>, AllocError>
-    ensures { Reads (sections_spec.title_form kind.now tree.now) faults.old faults.new result }
+    ensures { Reads (sections_spec.title_form (sections_spec.title_word file) tree.now) faults.old faults.new result }
 {
     let Tree::List { start, end, items } = tree else {
         faults.misshapen(alloc, tree.start());
@@ -364,11 +423,29 @@ pub fn read_title(
         faults.lacking(alloc, *end);
         return Ok(None);
     };
-    if !is_word(kind, head) {
+    if !is_title(file, head) {
         faults.misshapen(alloc, *start);
         return Ok(None);
     }
     read_only_name(alloc, *start, *end, parts, faults)
+}
+
+/// The word that a text starts with.
+const DEFINE: Table<1> = Table { words: ["define"] };
+
+/// The table of this one word is in byte order.
+pub fn define_rises()
+    ensures { Rises (map (λ w. w.now) DEFINE.words) }
+{}
+
+fn is_define(head: &Tree) -> bool
+    ensures { result ≡ is_word (codes "define") head.now }
+{
+    rows! {
+        DEFINE, word(head).as_bytes();
+        "define" => true;
+        else => false
+    }
 }
 
 /// The parts of a whole text.
@@ -388,7 +465,7 @@ pub fn open_definition<'a>(
         faults.lacking(alloc, *end);
         return None;
     };
-    if !is_word("define", head) {
+    if !is_define(head) {
         faults.misshapen(alloc, *start);
         return None;
     }

@@ -28,13 +28,7 @@ pub fn word(tree: &Tree) -> &str
     }
 }
 
-/// Whether a tree is this word.
-pub fn is_word(text: &str, tree: &Tree) -> bool
-    ensures { result ≡ words.is_word text.now tree.now }
-{
-    word(tree) == text
-}
-
+/// A copy of a word with its place.
 pub fn make_spot(alloc: Global, tree: &Tree) -> Result<Spot, AllocError>
     ensures { IfOk result (λ s. s ≡ words.spot_of tree.now) }
 {

@@ -1,16 +1,18 @@
 //! Typed lists. Begin with `read_typed_list`: names or variables, where a `-` and a type may follow one or more of them.
-ghost use Rattle.std.specs.Prelude.{◌≡◌, IfOk};
+ghost use Rattle.std.specs.Prelude.{◌≡◌, IfOk, codes, map};
+ghost use Rattle.kw_table.specs.Table.{Rises};
 ghost use Rattle.pddl_form.specs.Gather.{option_both};
 ghost use Rattle.pddl_form.specs.Judged.{mapped};
 ghost use Rattle.pddl_form.specs.Reading.{Reads};
-ghost use Rattle.pddl_form.specs.Words.{word_form};
+ghost use Rattle.pddl_form.specs.Words.{is_word, word_form};
 ghost use Rattle.pddl_form.specs.declared.names.Sort.TheVariants.{Name};
 ghost use Rattle.pddl_form.specs.Typed as typed;
 
 use crate::fault::FirstFault;
 use crate::gather::{add, add_all, parted, provided};
 use crate::names::Sort;
-use crate::spot::{Spot, is_word, read_word, read_words, word};
+use crate::spot::{Spot, read_word, read_words, word};
+use kw_table::{Table, rows};
 use sexpr::{Text, Tree};
 use sqlite_items::Items;
 use std::alloc::{AllocError, Global};
@@ -20,6 +22,39 @@ use std::alloc::{AllocError, Global};
 pub struct Typed {
     pub name: Spot,
     pub types: Items<Spot>,
+}
+
+/// The word behind which a type stands.
+const DASH: Table<1> = Table { words: ["-"] };
+
+/// The head of a type that is one of several.
+const EITHER: Table<1> = Table { words: ["either"] };
+
+/// The tables of the words of typed lists are in byte order.
+pub fn type_words_rise()
+    ensures dash { Rises (map (λ w. w.now) DASH.words) }
+    ensures either { Rises (map (λ w. w.now) EITHER.words) }
+{}
+
+/// Whether a type stands behind this tree: whether it is the word `-`.
+pub fn is_dash(tree: &Tree) -> bool
+    ensures { result ≡ is_word (codes "-") tree.now }
+{
+    rows! {
+        DASH, word(tree).as_bytes();
+        "-" => true;
+        else => false
+    }
+}
+
+fn is_either(head: &Tree) -> bool
+    ensures { result ≡ is_word (codes "either") head.now }
+{
+    rows! {
+        EITHER, word(head).as_bytes();
+        "either" => true;
+        else => false
+    }
 }
 
 /// `(either NAME ..)`, of which the names are given; only variables may have such a type.
@@ -71,7 +106,7 @@ fn read_type_list(
         faults.misshapen(alloc, place);
         return Ok(None);
     };
-    if is_word("either", head) {
+    if is_either(head) {
         return read_either(alloc, sort, head, end, names, faults);
     }
     faults.misshapen(alloc, start);
@@ -186,7 +221,7 @@ pub fn read_typed_list(
     let mut waiting = Some(Items::new(alloc));
     let mut rest = trees;
     while let Some((tree, behind)) = parted(rest) {
-        if is_word("-", tree) {
+        if is_dash(tree) {
             let named = has_item(&waiting);
             let names = provided(alloc, named, tree.start(), waiting, faults);
             let Some((second, more)) = parted(behind) else {

@@ -12,9 +12,9 @@ ghost use Rattle.pddl_problem.specs.Made as made_spec;
 use crate::ast::{InitAst, ProblemAst};
 use crate::init::read_inits;
 use pddl_form::{
-    CondAst, Definition, FirstFault, Sort, Spot, Typed, conclude, find_section, open_definition,
-    parted, provided, read_condition, read_only_name, read_requirements, read_section_words,
-    read_title, read_typed_list,
+    CondAst, Definition, FirstFault, SectionWord, Sort, Spot, Typed, conclude, find_section,
+    open_definition, parted, provided, read_condition, read_only_name, read_requirements,
+    read_section_words, read_title, read_typed_list,
 };
 use sexpr::{Source, TextRefusal, Tree};
 use sqlite_items::Items;
@@ -30,7 +30,7 @@ fn read_domain_name(
 ) -> Result<Option<Spot>, AllocError>
     ensures { Reads (problem.domain_section end sections.now) faults.old faults.new result }
 {
-    match find_section(sections, ":domain") {
+    match find_section(sections, SectionWord::Domain) {
         Some(section) => read_only_name(alloc, section.start, section.end, section.parts, faults),
         None => {
             faults.lacking(alloc, end);
@@ -48,7 +48,7 @@ fn read_objects(
 ) -> Result<Option<Items<Typed>>, AllocError>
     ensures { Reads (problem.objects_section sections.now) faults.old faults.new result }
 {
-    match find_section(sections, ":objects") {
+    match find_section(sections, SectionWord::Objects) {
         Some(section) => read_typed_list(alloc, Sort::Name, section.end, section.parts, faults),
         None => Ok(Some(Items::new(alloc))),
     }
@@ -63,7 +63,7 @@ fn read_init_section(
 ) -> Result<Option<Items<InitAst>>, AllocError>
     ensures { Reads (problem.init_section sections.now) faults.old faults.new result }
 {
-    match find_section(sections, ":init") {
+    match find_section(sections, SectionWord::Init) {
         Some(section) => read_inits(alloc, section.parts, faults),
         None => Ok(Some(Items::new(alloc))),
     }
@@ -98,7 +98,7 @@ fn read_goal(
 ) -> Result<Option<Items<CondAst>>, AllocError>
     ensures { Reads (problem.goal_section end sections.now) faults.old faults.new result }
 {
-    match find_section(sections, ":goal") {
+    match find_section(sections, SectionWord::Goal) {
         Some(section) => {
             read_only_condition(alloc, section.start, section.end, section.parts, faults)
         }
@@ -140,7 +140,7 @@ fn read_parts(
     let end = definition.end;
     let known = read_section_words(alloc, Source::Problem, sections, faults)?;
     let requirements = read_requirements(alloc, sections, faults)?;
-    let name = read_title(alloc, "problem", definition.title, faults)?;
+    let name = read_title(alloc, Source::Problem, definition.title, faults)?;
     let domain = read_domain_name(alloc, end, sections, faults)?;
     let objects = read_objects(alloc, sections, faults)?;
     let init = read_init_section(alloc, sections, faults)?;

@@ -1,4 +1,4 @@
-//! The task that a domain and a problem come to: names have become numbers, and each atom has its declared form.
+//! The task that a domain and a problem come to: names have become numbers, each in range.
 //!
 //! Begin with `Task`. What it is made of is plain data, which contracts see with the same variants and fields.
 #![tactic(auto)]

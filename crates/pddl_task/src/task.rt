@@ -205,6 +205,7 @@ impl Task {
         self.parts.funcs.len() as u32
     }
 
+    /// The name of an object, in lower case.
     pub fn object_name(&self, o: u32) -> &str
         requires { o < length self.now.objects }
         ensures { option_map (λ x. x.name) (slice_get self.now.objects o) ≡ Some result.now }
@@ -212,6 +213,7 @@ impl Task {
         self.parts.objects.as_slice()[o as usize].name.as_str()
     }
 
+    /// The type that an object is declared with.
     pub fn object_type(&self, o: u32) -> u32
         requires { o < length self.now.objects }
         ensures value { option_map (λ x. x.of) (slice_get self.now.objects o) ≡ Some result }
@@ -240,6 +242,7 @@ impl Task {
         self.hierarchy.below(t, u)
     }
 
+    /// The actions, in text order.
     pub fn actions(&self) -> &[Action]
         ensures value { result.now ≡ self.now.actions }
         ensures numbered { IsNumbered self.now }
@@ -247,6 +250,7 @@ impl Task {
         self.parts.actions.as_slice()
     }
 
+    /// The atoms that are true at the start, in text order.
     pub fn facts(&self) -> &[Fact]
         ensures value { result.now ≡ self.now.facts }
         ensures numbered { IsNumbered self.now }
@@ -254,6 +258,7 @@ impl Task {
         self.parts.facts.as_slice()
     }
 
+    /// The values that are given at the start, in text order.
     pub fn values(&self) -> &[Given]
         ensures value { result.now ≡ self.now.values }
         ensures numbered { IsNumbered self.now }
@@ -261,6 +266,7 @@ impl Task {
         self.parts.values.as_slice()
     }
 
+    /// The leaves of the goal, in text order.
     pub fn goal(&self) -> &[Cond]
         ensures value { result.now ≡ self.now.goal }
         ensures numbered { IsNumbered self.now }

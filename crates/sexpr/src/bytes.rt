@@ -20,6 +20,7 @@ pub enum Class {
     Foreign,
 }
 
+/// The class of a byte.
 pub fn class_at(byte: u8) -> Class
     ensures { result ≡ class_of byte }
 {
