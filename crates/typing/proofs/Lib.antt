@@ -1,0 +1,11 @@
+pub mod Noted
+pub mod Reading
+pub mod Changed
+pub mod Fitting
+pub mod TypeLaws
+pub mod GivenLaws
+pub mod Good
+pub mod NumberLaws
+pub mod Numbered
+pub mod Passes
+pub mod ItemLaws

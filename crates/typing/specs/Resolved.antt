@@ -1,0 +1,31 @@
+-- What the passes over names hand on: the parts, the tables of their names, and the types above each type. Only private
+-- functions' clauses cite these words.
+use Rattle.std.specs.Prelude.{◌≡◌, List, [], ◌++◌}
+use Rattle.pddl_domain.specs.declared.domain.DomainAst.{DomainAst}
+use Rattle.pddl_problem.specs.declared.ast.ProblemAst.{ProblemAst}
+use Rattle.pddl_form.specs.Judged.{good}
+use Rattle.pddl_task.specs.declared.declared.Object.{Object}
+use Rattle.pddl_task.specs.Task.{parents}
+use Rattle.typing_names.specs.declared.domain.DomainNames.{DomainNames}
+use Rattle.typing_names.specs.declared.problem.ProblemNames.{ProblemNames}
+use Rattle.typing_names.specs.Domain.{domain_names, domain_scope}
+use Rattle.typing_names.specs.Problem.{problem_names, problem_scope}
+use Rattle.typing.specs.Types.{Declared}
+use Rattle.typing_names.specs.Tables.{scope_in, parts_of, problem_parts_of}
+
+-- the names of a domain
+pub record IsResolved (d : DomainAst) (made : DomainNames) : Type 0 where
+  pub parts : domain_names d ≡ good (parts_of made)
+  pub tables : scope_in made.tables ≡ domain_scope d
+  pub hierarchy : made.hierarchy ≡ parents made.types
+
+-- and those of a problem, whose objects are in the tables too
+pub record AreResolved (d : DomainAst) (p : ProblemAst) (made : DomainNames) (more : ProblemNames) : Type 0 where
+  pub domain : domain_names d ≡ good (parts_of made)
+  pub problem : problem_names d p ≡ good (problem_parts_of more)
+  pub tables : scope_in made.tables ≡ problem_scope d p
+  pub hierarchy : made.hierarchy ≡ parents made.types
+
+-- what the passes over types know by the names of a domain, and the objects of a problem
+abbrev pub declared_in : DomainNames → List Object → Declared
+declared_in made objects = record { scope = scope_in made.tables; above = made.hierarchy; objects = made.objects ++ objects; preds = made.preds; funcs = made.funcs; params = [] }

@@ -1,0 +1,12 @@
+//! The task of two texts: their names are resolved, and then their types and the linearity of their expressions are
+//! judged. Begin with `link`.
+#![tactic(auto)]
+
+mod fit;
+mod given;
+mod linear;
+mod linking;
+mod making;
+mod types;
+
+pub use linking::link;

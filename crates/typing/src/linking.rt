@@ -1,0 +1,251 @@
+//! The task that a written domain and problem come to. Begin with `link`: one pass after another, the first that finds a
+//! fault gives the answer.
+ghost use Rattle.std.specs.Prelude.{◌≡◌, [], IfErr, IfOk};
+ghost use Rattle.sexpr.specs.declared.fault.Source.TheVariants as source;
+ghost use Rattle.pddl_form.specs.Concluded.{Answers, RefusesBy};
+ghost use Rattle.pddl_form.specs.Judged.{good};
+ghost use Rattle.typing_names.specs.Domain.{domain_names};
+ghost use Rattle.typing_names.specs.Problem.{problem_names};
+ghost use Rattle.typing.specs.Types.{domain_types, problem_types};
+ghost use Rattle.typing.specs.Linear.{bent_domain, bent_goal};
+ghost use Rattle.typing_names.specs.Faults.{tested};
+ghost use Rattle.typing.specs.Link.{Links};
+ghost use Rattle.typing_names.specs.Tables.{parts_of, problem_parts_of};
+ghost use Rattle.typing.specs.Known.{declared_of};
+ghost use Rattle.typing.specs.Resolved.{IsResolved, AreResolved, declared_in};
+
+use crate::fit::Known;
+use crate::given::judge_problem_types;
+use crate::linear::{Changing, judge_domain_linearity, judge_goal_linearity};
+use crate::making::make_task;
+use crate::types::judge_domain_types;
+use name_table::NameTable;
+use pddl_domain::DomainAst;
+use pddl_form::{FirstFault, conclude};
+use pddl_problem::ProblemAst;
+use pddl_task::{Object, Task};
+use sexpr::{Source, TextRefusal};
+use std::alloc::Global;
+use typing_names::{DomainNames, Names, ProblemNames, resolve_domain, resolve_problem};
+
+/// The pass over the domain's names.
+fn pass_domain_names(alloc: Global, domain: &DomainAst) -> Result<DomainNames, TextRefusal>
+    ensures made { IfOk result (λ n. IsResolved domain.now n) }
+    ensures refused { IfErr result (RefusesBy source.Domain (domain_names domain.now)) }
+{
+    let mut faults = FirstFault::new();
+    let made = resolve_domain(alloc, domain, &mut faults)?;
+    conclude(Source::Domain, made, faults)
+}
+
+/// What the passes over types know, with the objects of a problem.
+fn known_by<'a>(made: &'a DomainNames, objects: &'a [Object], params: &'a NameTable) -> Known<'a>
+    requires { params.now ≡ [] }
+    ensures { declared_of result ≡ declared_in made.now objects.now }
+{
+    Known {
+        names: Names {
+            types: &made.tables.types,
+            objects: &made.tables.objects,
+            preds: &made.tables.preds,
+            funcs: &made.tables.funcs,
+            params,
+        },
+        hierarchy: &made.hierarchy,
+        constants: made.objects.as_slice(),
+        objects,
+        preds: made.preds.as_slice(),
+        funcs: made.funcs.as_slice(),
+        params: &[],
+    }
+}
+
+/// The pass over the domain's types.
+fn pass_domain_types(
+    alloc: Global,
+    domain: &DomainAst,
+    made: &DomainNames,
+) -> Result<(), TextRefusal>
+    requires { IsResolved domain.now made.now }
+    ensures { Answers source.Domain (tested (domain_types domain.now (parts_of made.now))) result }
+{
+    let params = NameTable::new(alloc);
+    let known = known_by(made, &[], &params);
+    let mut faults = FirstFault::new();
+    judge_domain_types(alloc, &known, domain, made.actions.as_slice(), &mut faults)?;
+    conclude(Source::Domain, Some(()), faults)
+}
+
+/// The pass over the problem's names, whose objects are added to the domain's.
+fn pass_problem_names(
+    alloc: Global,
+    domain: &DomainAst,
+    problem: &ProblemAst,
+    made: DomainNames,
+) -> Result<(DomainNames, ProblemNames), TextRefusal>
+    requires { IsResolved domain.now made }
+    ensures made { IfOk result (λ n. AreResolved domain.now problem.now n.0 n.1) }
+    ensures parts { IfOk result (λ n. parts_of n.0 ≡ parts_of made) }
+    ensures refused { IfErr result (RefusesBy source.Problem (problem_names domain.now problem.now)) }
+{
+    let mut faults = FirstFault::new();
+    let mut made = made;
+    let more = resolve_problem(alloc, &mut made.tables, domain, problem, &mut faults)?;
+    match conclude(Source::Problem, more, faults) {
+        Ok(more) => Ok((made, more)),
+        Err(refusal) => Err(refusal),
+    }
+}
+
+/// The pass over the problem's types.
+fn pass_problem_types<'a>(
+    alloc: Global,
+    domain: &DomainAst,
+    problem: &ProblemAst,
+    made: &'a DomainNames,
+    more: &'a ProblemNames,
+) -> Result<(), TextRefusal>
+    requires { AreResolved domain.now problem.now made.now more.now }
+    ensures { Answers source.Problem (tested (problem_types domain.now (parts_of made.now) problem.now (problem_parts_of more.now))) result }
+{
+    let params = NameTable::new(alloc);
+    let known = known_by(made, more.objects.as_slice(), &params);
+    let mut faults = FirstFault::new();
+    judge_problem_types(alloc, &known, problem, more.items.as_slice(), &mut faults)?;
+    conclude(Source::Problem, Some(()), faults)
+}
+
+fn pass_domain_linearity(
+    alloc: Global,
+    domain: &DomainAst,
+    changing: &Changing,
+) -> Result<(), TextRefusal>
+    requires { changing.now ≡ domain.now.actions }
+    ensures { Answers source.Domain (tested (bent_domain domain.now.actions)) result }
+{
+    let mut faults = FirstFault::new();
+    judge_domain_linearity(alloc, changing, &mut faults);
+    conclude(Source::Domain, Some(()), faults)
+}
+
+fn pass_goal_linearity(
+    alloc: Global,
+    domain: &DomainAst,
+    problem: &ProblemAst,
+    changing: &Changing,
+) -> Result<(), TextRefusal>
+    requires { changing.now ≡ domain.now.actions }
+    ensures { Answers source.Problem (tested (bent_goal domain.now.actions problem.now.goal)) result }
+{
+    let mut faults = FirstFault::new();
+    judge_goal_linearity(alloc, changing, problem.goal.as_slice(), &mut faults);
+    conclude(Source::Problem, Some(()), faults)
+}
+
+/// The pass over the goal's linearity, and the task.
+fn link_goal(
+    alloc: Global,
+    domain: &DomainAst,
+    problem: &ProblemAst,
+    changing: &Changing,
+    made: DomainNames,
+    more: ProblemNames,
+) -> Result<Task, TextRefusal>
+    requires resolved { AreResolved domain.now problem.now made more }
+    requires typed { tested (domain_types domain.now (parts_of made)) ≡ good tt }
+    requires fits { tested (problem_types domain.now (parts_of made) problem.now (problem_parts_of more)) ≡ good tt }
+    requires straight { tested (bent_domain domain.now.actions) ≡ good tt }
+    requires changing { changing.now ≡ domain.now.actions }
+    ensures { Links domain.now problem.now result }
+{
+    match pass_goal_linearity(alloc, domain, problem, changing) {
+        Ok(()) => make_task(alloc, domain, problem, made, more),
+        Err(refusal) => Err(refusal),
+    }
+}
+
+/// The pass over the domain's linearity, and what follows.
+fn link_linear(
+    alloc: Global,
+    domain: &DomainAst,
+    problem: &ProblemAst,
+    made: DomainNames,
+    more: ProblemNames,
+) -> Result<Task, TextRefusal>
+    requires resolved { AreResolved domain.now problem.now made more }
+    requires typed { tested (domain_types domain.now (parts_of made)) ≡ good tt }
+    requires fits { tested (problem_types domain.now (parts_of made) problem.now (problem_parts_of more)) ≡ good tt }
+    ensures { Links domain.now problem.now result }
+{
+    let changing = match Changing::new(alloc, domain.actions.as_slice()) {
+        Ok(changing) => changing,
+        Err(_) => return Err(TextRefusal::Memory),
+    };
+    match pass_domain_linearity(alloc, domain, &changing) {
+        Ok(()) => link_goal(alloc, domain, problem, &changing, made, more),
+        Err(refusal) => Err(refusal),
+    }
+}
+
+/// The pass over the problem's types, and what follows.
+fn link_problem(
+    alloc: Global,
+    domain: &DomainAst,
+    problem: &ProblemAst,
+    made: DomainNames,
+    more: ProblemNames,
+) -> Result<Task, TextRefusal>
+    requires resolved { AreResolved domain.now problem.now made more }
+    requires typed { tested (domain_types domain.now (parts_of made)) ≡ good tt }
+    ensures { Links domain.now problem.now result }
+{
+    match pass_problem_types(alloc, domain, problem, &made, &more) {
+        Ok(()) => link_linear(alloc, domain, problem, made, more),
+        Err(refusal) => Err(refusal),
+    }
+}
+
+/// The pass over the problem's names, and what follows.
+fn link_types(
+    alloc: Global,
+    domain: &DomainAst,
+    problem: &ProblemAst,
+    made: DomainNames,
+) -> Result<Task, TextRefusal>
+    requires resolved { IsResolved domain.now made }
+    requires typed { tested (domain_types domain.now (parts_of made)) ≡ good tt }
+    ensures { Links domain.now problem.now result }
+{
+    match pass_problem_names(alloc, domain, problem, made) {
+        Ok((made, more)) => link_problem(alloc, domain, problem, made, more),
+        Err(refusal) => Err(refusal),
+    }
+}
+
+/// The pass over the domain's types, and what follows.
+fn link_names(
+    alloc: Global,
+    domain: &DomainAst,
+    problem: &ProblemAst,
+    made: DomainNames,
+) -> Result<Task, TextRefusal>
+    requires { IsResolved domain.now made }
+    ensures { Links domain.now problem.now result }
+{
+    match pass_domain_types(alloc, domain, &made) {
+        Ok(()) => link_types(alloc, domain, problem, made),
+        Err(refusal) => Err(refusal),
+    }
+}
+
+/// Links a domain and a problem to their task, or answers the first fault.
+///
+/// More things of a kind than 32 bits count are want of memory.
+pub fn link(alloc: Global, domain: DomainAst, problem: ProblemAst) -> Result<Task, TextRefusal>
+    ensures { Links domain problem result }
+{
+    match pass_domain_names(alloc, &domain) {
+        Ok(made) => link_names(alloc, &domain, &problem, made),
+        Err(refusal) => Err(refusal),
+    }
+}

@@ -1,0 +1,137 @@
+//! The names of a domain: what it declares, with numbers for names. Begin with `resolve_domain`.
+ghost use Rattle.std.specs.Prelude.{◌≡◌, IfOk, IfSome};
+ghost use Rattle.std.specs.Option.{option_map};
+ghost use Rattle.pddl_form.specs.Judged.{both};
+ghost use Rattle.pddl_form.specs.Parts.{pair};
+ghost use Rattle.pddl_form.specs.Reading.{IsRead, Reads};
+ghost use Rattle.pddl_task.specs.Task.{parents};
+ghost use Rattle.typing_names.specs.Faults.{tested};
+ghost use Rattle.typing_names.specs.Tables.{scope_in, parts_of};
+ghost use Rattle.typing_names.specs.Domain as domain;
+
+use crate::actions::resolve_actions;
+use crate::declare::{declare_actions, declare_heads, declare_typed};
+use crate::declared::{resolve_objects, resolve_signatures};
+use crate::fault::beside;
+use crate::scope::Names;
+use crate::type_names::{resolve_types, type_table};
+use hierarchy::Hierarchy;
+use name_table::NameTable;
+use pddl_domain::DomainAst;
+use pddl_form::{FirstFault, pair};
+use pddl_task::{Action, Object, Signature, TypeName};
+use sqlite_items::Items;
+use std::alloc::{AllocError, Global};
+
+/// The names of a domain's spaces.
+#[derive(Debug, Drop)]
+pub struct Tables {
+    pub types: NameTable,
+    pub objects: NameTable,
+    pub preds: NameTable,
+    pub funcs: NameTable,
+}
+
+/// What a domain declares, with the names of its spaces and the types above its types.
+#[derive(Debug, Drop)]
+pub struct DomainNames {
+    pub types: Items<TypeName>,
+    pub objects: Items<Object>,
+    pub preds: Items<Signature>,
+    pub funcs: Items<Signature>,
+    pub actions: Items<Action>,
+    pub tables: Tables,
+    pub hierarchy: Hierarchy,
+}
+
+/// The objects and the predicates, the functions, and the actions.
+type DomainFront = ((Items<Object>, Items<Signature>), Items<Signature>);
+
+/// The names of each space, and whether each name is declared once.
+fn declare_domain(
+    alloc: Global,
+    d: &DomainAst,
+    faults: &mut FirstFault,
+) -> Result<(Option<()>, Tables), AllocError>
+    ensures faults { IfOk result (λ made. IsRead (tested (domain.domain_again d.now)) faults.old faults.new made.0) }
+    ensures names { IfOk result (λ made. scope_in made.1 ≡ domain.domain_scope d.now) }
+{
+    let types = type_table(alloc, d.types.as_slice())?;
+    let mut listed = NameTable::new(alloc);
+    let new_types = declare_typed(alloc, &mut listed, d.types.as_slice(), faults)?;
+    let mut objects = NameTable::new(alloc);
+    let new_objects = declare_typed(alloc, &mut objects, d.constants.as_slice(), faults)?;
+    let mut preds = NameTable::new(alloc);
+    let new_preds = declare_heads(alloc, &mut preds, d.preds.as_slice(), faults)?;
+    let mut funcs = NameTable::new(alloc);
+    let new_funcs = declare_heads(alloc, &mut funcs, d.funcs.as_slice(), faults)?;
+    let mut actions = NameTable::new(alloc);
+    let new_actions = declare_actions(alloc, &mut actions, d.actions.as_slice(), faults)?;
+    let last = beside(new_funcs, new_actions);
+    let later = beside(new_preds, last);
+    let behind = beside(new_objects, later);
+    let all = beside(new_types, behind);
+    Ok((
+        all,
+        Tables {
+            types,
+            objects,
+            preds,
+            funcs,
+        },
+    ))
+}
+
+fn resolve_parts(
+    alloc: Global,
+    tables: &Tables,
+    d: &DomainAst,
+    faults: &mut FirstFault,
+) -> Result<Option<(DomainFront, Items<Action>)>, AllocError>
+    ensures { Reads (both pair (both pair (both pair (domain.objects_named tables.now.types d.now.constants) (domain.signatures_named tables.now.types d.now.preds)) (domain.signatures_named tables.now.types d.now.funcs)) (domain.actions_named (scope_in tables.now) d.now.actions)) faults.old faults.new result }
+{
+    let params = NameTable::new(alloc);
+    let names = Names {
+        types: &tables.types,
+        objects: &tables.objects,
+        preds: &tables.preds,
+        funcs: &tables.funcs,
+        params: &params,
+    };
+    let objects = resolve_objects(alloc, names.types, d.constants.as_slice(), faults)?;
+    let preds = resolve_signatures(alloc, names.types, d.preds.as_slice(), faults)?;
+    let funcs = resolve_signatures(alloc, names.types, d.funcs.as_slice(), faults)?;
+    let actions = resolve_actions(alloc, &names, d.actions.as_slice(), faults)?;
+    let declared = pair(objects, preds);
+    let front = pair(declared, funcs);
+    Ok(pair(front, actions))
+}
+
+/// The whole domain.
+pub fn resolve_domain(
+    alloc: Global,
+    d: &DomainAst,
+    faults: &mut FirstFault,
+) -> Result<Option<DomainNames>, AllocError>
+    ensures names { IfOk result (λ made. IsRead (domain.domain_names d.now) faults.old faults.new (option_map parts_of made)) }
+    ensures tables { IfOk result (λ made. IfSome made (λ n. scope_in n.tables ≡ domain.domain_scope d.now)) }
+    ensures above { IfOk result (λ made. IfSome made (λ n. n.hierarchy ≡ parents n.types)) }
+{
+    let (new, tables) = declare_domain(alloc, d, faults)?;
+    let parts = resolve_parts(alloc, &tables, d, faults)?;
+    let Some((front, actions)) = beside(new, parts) else {
+        return Ok(None);
+    };
+    let (declared, funcs) = front;
+    let (objects, preds) = declared;
+    let (types, hierarchy) = resolve_types(alloc, &tables.types, d.types.as_slice())?;
+    Ok(Some(DomainNames {
+        types,
+        objects,
+        preds,
+        funcs,
+        actions,
+        tables,
+        hierarchy,
+    }))
+}
