@@ -1,5 +1,2 @@
-pub mod TextLaws
-pub mod CauseLaws
-pub mod PrintLaws
-pub mod StatusLaws
-pub mod DueLaws
+pub mod GoalLaws
+pub mod PlannerLaws

@@ -1,8 +1,3 @@
 pub mod Words
-pub mod Propositional
-pub mod Start
-pub mod Texts
-pub mod Cause
-pub mod Printed
-pub mod Statuses
-pub mod Taken
+pub mod Goal
+pub mod Planner

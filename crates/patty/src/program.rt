@@ -1,68 +1,65 @@
 //! The planner's top call: first a verdict on the words, the files and the texts, then its lines.
 //!
 //! `plan_run` carries a clause for each status, and one that says which status is due.
-ghost use Rattle.std.specs.Prelude.{◌≡◌, ◌≢◌, ◌≤◌, ℕ, List};
+ghost use Rattle.std.specs.Prelude.{◌≡◌, ◌≢◌, ◌⊎◌, [], ◌∷◌, Result, Ok, Some};
 ghost use Rattle.patty_io.specs.Faults.{Rose};
-ghost use Rattle.patty.specs.declared.verdict.Verdict.{Verdict as Called};
-ghost use Rattle.patty.specs.declared.verdict.Verdict.TheVariants as verdict;
-ghost use Rattle.patty.specs.Words.{names};
-ghost use Rattle.patty.specs.Cause.{Causes, Named};
-ghost use Rattle.patty.specs.Taken.{IsTaken};
-ghost use Rattle.patty.specs.Statuses.{Runs, Comes, IsRefused, IsUsage, FailsToRead, IsStarted, IsDue, ReadsWell, Ends};
+ghost use Rattle.patty_run.specs.declared.input.Input.TheVariants as input;
+ghost use Rattle.patty_run.specs.declared.stop.Stop.{Stop as Stopped};
+ghost use Rattle.patty_run.specs.Inputs.{input_file};
+ghost use Rattle.patty_run.specs.Runs.{Causes};
+ghost use Rattle.patty_run.specs.Statuses.{Runs, Comes, IsRefused, IsUsage, FailsToRead, IsStarted, IsDue, Ends};
+ghost use Rattle.patty.specs.declared.answer.Answer.{Answer as Answers};
+ghost use Rattle.patty.specs.declared.answer.Answer.TheVariants as answer;
+ghost use Rattle.patty.specs.Words.{files_of};
+ghost use Rattle.patty.specs.Planner.{planner};
 
-use crate::Verdict;
+use crate::answer::Answer;
+use crate::judging::judge_texts;
 use crate::printing::print;
-use crate::texts::decide;
-use patty_io::{Shelf, ShelfFail, Sink, Status};
-use sexpr::Source;
+use patty_io::{Shelf, Sink, Status};
+use patty_run::{Input, NamedInput, Stop, take_inputs};
 use std::alloc::Global;
 
-/// The bytes of a file, or else why there are none.
-fn taken<F: Shelf>(
+fn judge_files<F: Shelf>(
     alloc: Global,
+    domain: &str,
+    problem: &str,
     files: &mut F,
-    name: &str,
-    file: Source,
-) -> Result<Vec<u8>, Verdict>
-    ensures taken { IsTaken (F.content files.old name.now) (F.faults files.old name.now) (F.faults files.new name.now) file result }
-    ensures later { (of : List ℕ) → F.faults files.old of ≤ F.faults files.new of }
-    ensures content { (of : List ℕ) → F.content files.new of ≡ F.content files.old of }
+) -> Result<Answer, Stop>
+    ensures { Causes planner (F.content files.old) (F.faults files.old) (F.faults files.new) (Some (input_file input.Domain domain.now ∷ input_file input.Problem problem.now ∷ [])) result }
 {
-    let mut bytes = Vec::new(alloc);
-    match files.take(name, &mut bytes) {
-        Ok(()) => Ok(bytes),
-        Err(ShelfFail::Failed) => Err(Verdict::ReadFault(file)),
-        Err(ShelfFail::Long) => Err(Verdict::Long(file)),
-        Err(ShelfFail::Memory) => Err(Verdict::Memory),
-    }
+    let inputs = [
+        NamedInput {
+            input: Input::Domain,
+            name: domain,
+        },
+        NamedInput {
+            input: Input::Problem,
+            name: problem,
+        },
+    ];
+    let taken = match take_inputs(alloc, files, &inputs) {
+        Ok(taken) => taken,
+        Err(stop) => return Err(stop),
+    };
+    let [domain, problem] = taken.as_slice() else {
+        unreachable!()
+    };
+    judge_texts(alloc, domain, problem)
 }
 
-fn judge_files<F: Shelf>(alloc: Global, domain: &str, problem: &str, files: &mut F) -> Verdict
-    ensures { Named (F.content files.old) (F.faults files.old) (F.faults files.new) (domain.now, problem.now) result }
-{
-    let first = match taken(alloc, files, domain, Source::Domain) {
-        Ok(bytes) => bytes,
-        Err(verdict) => return verdict,
-    };
-    let second = match taken(alloc, files, problem, Source::Problem) {
-        Ok(bytes) => bytes,
-        Err(verdict) => return verdict,
-    };
-    decide(alloc, &first, &second)
-}
-
-fn judge<F: Shelf>(alloc: Global, words: &[String], files: &mut F) -> Verdict
-    ensures { Causes (F.content files.old) (F.faults files.old) (F.faults files.new) (names words.now) result }
+fn judge<F: Shelf>(alloc: Global, words: &[String], files: &mut F) -> Result<Answer, Stop>
+    ensures { Causes planner (F.content files.old) (F.faults files.old) (F.faults files.new) (files_of words.now) result }
 {
     match words {
         [domain, problem, option, value] if option.as_str() == "--max-n" && value.as_str() == "0" =>
             { judge_files(alloc, domain.as_str(), problem.as_str(), files) }
-        _ => Verdict::Usage,
+        _ => Err(Stop::Usage),
     }
 }
 
 fn run<F: Shelf, O: Sink>(alloc: Global, words: &[String], files: &mut F, out: &mut O) -> Status
-    ensures { Runs (F.content files.old) (F.faults files.old) (F.faults files.new) (names words.now) (O.written out.old) (O.written out.new) (O.faults out.old) (O.faults out.new) result.code }
+    ensures { Runs planner (F.content files.old) (F.faults files.old) (F.faults files.new) (files_of words.now) (O.written out.old) (O.written out.new) (O.faults out.old) (O.faults out.new) result.code }
 {
     let verdict = judge(alloc, words, files);
     print(alloc, &verdict, out)
@@ -78,26 +75,27 @@ pub fn plan_run<F: Shelf, O: Sink>(
     files: &mut F,
     out: &mut O,
 ) -> Status
-    ensures plan { result.code ≡ 0 → Comes (F.content files.old) (names words.now) (O.written out.old) (O.written out.new) verdict.Plan }
-    ensures refuted { result.code ≡ 1 → Comes (F.content files.old) (names words.now) (O.written out.old) (O.written out.new) verdict.Refuted }
-    ensures refused { result.code ≡ 3 → IsRefused (F.content files.old) (names words.now) (O.written out.old) (O.written out.new) }
-    ensures usage { result.code ≡ 4 → IsUsage (names words.now) (O.written out.old) (O.written out.new) }
-    ensures read_fault { result.code ≡ 5 → FailsToRead (F.content files.old) (F.faults files.old) (F.faults files.new) (names words.now) (O.written out.old) (O.written out.new) }
+    ensures plan { result.code ≡ 0 → Comes planner (F.content files.old) (files_of words.now) (O.written out.old) (O.written out.new) (Ok answer.Plan) }
+    ensures refuted { result.code ≡ 1 → Comes planner (F.content files.old) (files_of words.now) (O.written out.old) (O.written out.new) (Ok answer.Refuted) }
+    ensures refused { result.code ≡ 3 → IsRefused planner (F.content files.old) (files_of words.now) (O.written out.old) (O.written out.new)
+        ⊎ Comes planner (F.content files.old) (files_of words.now) (O.written out.old) (O.written out.new) (Ok answer.NotBuilt) }
+    ensures usage { result.code ≡ 4 → IsUsage planner (F.content files.old) (files_of words.now) (O.written out.old) (O.written out.new) }
+    ensures read_fault { result.code ≡ 5 → FailsToRead planner (F.content files.old) (F.faults files.old) (F.faults files.new) (files_of words.now) (O.written out.old) (O.written out.new) }
     ensures write_fault { result.code ≡ 6 → Rose (O.faults out.old) (O.faults out.new) }
 
     // Some verdict has its cause, and its lines are printed with its status, or a front of them.
-    ensures runs { Runs (F.content files.old) (F.faults files.old) (F.faults files.new) (names words.now) (O.written out.old) (O.written out.new) (O.faults out.old) (O.faults out.new) result.code }
+    ensures runs { Runs planner (F.content files.old) (F.faults files.old) (F.faults files.new) (files_of words.now) (O.written out.old) (O.written out.new) (O.faults out.old) (O.faults out.new) result.code }
 
     // A failed write always shows in the status.
     ensures written_well { result.code ≢ 6 → result.code ≢ 7 → O.faults out.new ≡ O.faults out.old }
 
     // Whatever the status, also after a failed write and where memory ran out, a front of the lines of some
     // verdict that has its cause was written.
-    ensures started { IsStarted (F.content files.old) (F.faults files.old) (F.faults files.new) (names words.now) (O.written out.old) (O.written out.new) }
+    ensures started { IsStarted planner (F.content files.old) (F.faults files.old) (F.faults files.new) (files_of words.now) (O.written out.old) (O.written out.new) }
 
-    // What the words and the told files call for comes, unless reading or writing failed or memory ran out.
-    ensures due { (called : Called) → IsDue (F.content files.old) (names words.now) called → ReadsWell (F.faults files.old) (F.faults files.new) (names words.now) called
-        → Ends called (O.written out.old) (O.written out.new) (O.faults out.old) (O.faults out.new) result.code }
+    // What the words and the told files call for comes, unless a file failed to be read, writing failed or memory ran out.
+    ensures due { (called : Result Answers Stopped) → IsDue planner (F.content files.old) (F.faults files.old) (F.faults files.new) (files_of words.now) called
+        → Ends planner called (O.written out.old) (O.written out.new) (O.faults out.old) (O.faults out.new) result.code }
 {
     run(alloc, words, files, out)
 }

@@ -16,32 +16,32 @@ use Rattle.plan_step.specs.State.{PlanState}
 use Rattle.plan_step.specs.Met.{Met, found, lacks, passes, and_then}
 use Rattle.plan_step.specs.Evaluation.{objects_of, is_zero_ℤ, evaluated}
 use Rattle.plan_step.specs.Order.{related}
-use Rattle.plan_step.specs.Conditions.{leaf_met, leaves_met, first_unmet}
+use Rattle.plan_step.specs.Conditions.{leaf_met, leaves_met, first_unmet, all_met, goal_met}
 use Rattle.plan_step.specs.Effects.{Change, put, change, target_met, amount_met, change_met, more_changes, all_changes, changed}
 use Rattle.plan_step.specs.Meaning.{compares, holds, all_hold, has_target, amount, change_of, changed_by, value_of}
 use Rattle.plan_step.specs.Laws.{IsWide}
-use Rattle.plan_step.proofs.Meanings.{Agrees, agrees_then, agrees_as, agrees_operated, value_agrees}
+use Rattle.plan_step.proofs.Meanings.{IsPast, Agrees, agrees_then, agrees_as, agrees_operated, value_agrees}
 
 -- ---- conditions
 
 -- what is met at a leaf, and whether it holds
-abbrev LeafAgrees : Met Bool → Bool → Type 0
+abbrev pub LeafAgrees : Met Bool → Bool → Type 0
 LeafAgrees (found c) b = b ≡ c
 LeafAgrees lacks b = b ≡ false
-LeafAgrees (passes w) b = Unit {0}
+LeafAgrees (passes w) b = IsPast w
 
 right_side : (is : Fraction → Fraction → Bool) (x : Fraction) (n : Met Fraction) (b : Option Fraction) → Agrees n b → LeafAgrees (and_then n (λ y. found (is x y))) (compares is (Some x) b)
 right_side is x (found y) b h = ap (compares is (Some x)) h
 right_side is x lacks b h = ap (compares is (Some x)) h
-right_side is x (passes w) b h = tt
+right_side is x (passes w) b h = h
 
 sides : (is : Fraction → Fraction → Bool) (m n : Met Fraction) (a b : Option Fraction) → Agrees m a → Agrees n b → LeafAgrees (and_then m (λ x. and_then n (λ y. found (is x y)))) (compares is a b)
 sides is (found x) n a b h k = let P : Option Fraction → Type 0 = λ o. LeafAgrees (and_then n (λ y. found (is x y))) (compares is o b) in subst P (sym h) (right_side is x n b k)
 sides is lacks n a b h k = ap (λ (o : Option Fraction). compares is o b) h
-sides is (passes w) n a b h k = tt
+sides is (passes w) n a b h k = h
 
 module _ (state : PlanState) (args : List ℕ) where
-  leaf_agrees : (c : Cond) → LeafAgrees (leaf_met state args c) (holds state args c)
+  pub leaf_agrees : (c : Cond) → LeafAgrees (leaf_met state args c) (holds state args c)
   leaf_agrees (cond_of.Lit sign pred terms) = refl
   leaf_agrees (cond_of.Same sign left right) = refl
   leaf_agrees (cond_of.Compare rel left right) = sides (related rel) (evaluated state args left) (evaluated state args right) (value_of state args left) (value_of state args right) (value_agrees state args left) (value_agrees state args right)
@@ -70,6 +70,21 @@ module _ (state : PlanState) (args : List ℕ) where
   conditions_fail (c ∷ conds) i e all is =
       first_fails (leaf_met state args c) (holds state args c) (all_hold state args conds) i (leaves_met state args conds) e (leaf_agrees c) (conditions_fail conds (i + 1) e) all is
 
+  all_then : (m : Met Bool) (b rest answer : Bool) (ms : List (Met Bool)) → LeafAgrees m b → (all_met ms ≡ Ok answer → rest ≡ answer) → all_met (m ∷ ms) ≡ Ok answer → (b && rest) ≡ answer
+  all_then (found true) b rest answer ms h k is = ap (λ c. c && rest) h ∙ k is
+  all_then (found false) b rest answer ms h k is = let same : false ≡ answer = cc in ap (λ c. c && rest) h ∙ same
+  all_then lacks b rest answer ms h k is = let same : false ≡ answer = cc in ap (λ c. c && rest) h ∙ same
+  all_then (passes w) b rest answer ms h k is = cc
+
+  answer_is : (conds : List Cond) (answer : Bool) → all_met (leaves_met state args conds) ≡ Ok answer → all_hold state args conds ≡ answer
+  answer_is [] answer is = cc
+  answer_is (c ∷ conds) answer is = all_then (leaf_met state args c) (holds state args c) (all_hold state args conds) answer (leaves_met state args conds) (leaf_agrees c) (answer_is conds answer) is
+
+-- what the test of a goal says of it
+pub tested_goal : (state : PlanState) (goal : List Cond) (answer : Bool) → goal_met state goal ≡ Ok answer → all_hold state [] goal ≡ answer
+unfolding goal_met
+tested_goal state goal answer is = answer_is state [] goal answer is
+
 -- ---- effects
 targeted : (op : NumOp) (v : Option Fraction) (m : Met Change) (o : Option Change) → Agrees m o → Agrees (and_then (target_met op v) (λ _. m)) (cond (has_target op v) o None)
 targeted Assign v m o h = h
@@ -96,7 +111,7 @@ amount_agrees ScaleDown x = by_zero (is_zero_ℤ x.num) x
 mapped : {A B : Type 0} (k : A → B) (m : Met A) (o : Option A) → Agrees m o → Agrees (and_then m (λ y. found (k y))) (option_map k o)
 mapped k (found x) o h = ap (option_map k) h
 mapped k lacks o h = ap (option_map k) h
-mapped k (passes w) o h = tt
+mapped k (passes w) o h = h
 
 map_then : {A B C : Type 0} (k : B → C) (g : A → Option B) (o : Option A) → option_and_then (λ x. option_map k (g x)) o ≡ option_map k (option_and_then g o)
 map_then k g None = refl
@@ -114,12 +129,12 @@ changed_agrees ScaleDown None by = refl
 changed_agrees ScaleDown (Some x) by = agrees_operated op.Div x by
 
 -- what comes of a leaf's change and of the rest
-abbrev gathered : ℕ → Met Change → Result (List Change) StepFail → Result (List Change) StepFail
+abbrev pub gathered : ℕ → Met Change → Result (List Change) StepFail → Result (List Change) StepFail
 gathered i (found c) rest = more_changes c rest
 gathered i lacks rest = Err (fail.NoValue i)
 gathered i (passes w) rest = Err (fail.Wide w)
 
-gathered_is : (i : ℕ) (m : Met Change) (ms : List (Met Change)) → all_changes i (m ∷ ms) ≡ gathered i m (all_changes (i + 1) ms)
+pub gathered_is : (i : ℕ) (m : Met Change) (ms : List (Met Change)) → all_changes i (m ∷ ms) ≡ gathered i m (all_changes (i + 1) ms)
 gathered_is i (found c) ms = refl
 gathered_is i lacks ms = refl
 gathered_is i (passes w) ms = refl
@@ -134,7 +149,7 @@ HaveValues values [] = Unit {0}
 HaveValues values (c ∷ changes) = HasValue values c × HaveValues values changes
 
 module _ (state : PlanState) (args : List ℕ) where
-  change_agrees : (e : Effect) → Agrees (change_met state args e) (change_of state args e)
+  pub change_agrees : (e : Effect) → Agrees (change_met state args e) (change_of state args e)
   change_agrees (effect.Put sign pred terms) = refl
   change_agrees (effect.Change op func terms by) =
       let k : Fraction → Change = change op func (objects_of args terms) in

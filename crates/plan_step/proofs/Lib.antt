@@ -20,3 +20,5 @@ pub mod Starting
 pub mod Meanings
 pub mod LeafLaws
 pub mod StepLaws
+pub mod RunLaws
+pub mod WideLaws

@@ -21,16 +21,20 @@ use Rattle.plan_step.specs.Evaluation.{objects_of, is_zero_ℤ, folded_from, fol
 use Rattle.plan_step.specs.Meaning.{with_both, plus, times, minus, sum_of, product_of, quotient_of, value_step, value_of}
 use Rattle.plan_step.proofs.Expressions.{evaluated-num, evaluated-call, evaluated-add, evaluated-mul, evaluated-neg, evaluated-sub, evaluated-div}
 
+-- an operation that is met passes 128 bits
+abbrev pub IsPast : Wide → Type 0
+IsPast w = passes_128 w.op w.x w.y ≡ true
+
 -- what is met, and what there is
 abbrev pub Agrees : {A : Type 0} → Met A → Option A → Type 0
 Agrees (found x) o = o ≡ Some x
 Agrees lacks o = o ≡ None
-Agrees (passes w) o = Unit {0}
+Agrees (passes w) o = IsPast w
 
 pub agrees_then : {A B : Type 0} (m : Met A) (o : Option A) (f : A → Met B) (g : A → Option B) → Agrees m o → ((x : A) → Agrees (f x) (g x)) → Agrees (and_then m f) (option_and_then g o)
 agrees_then {B = B} (found x) o f g h k = let P : Option B → Type 0 = λ p. Agrees (f x) p in subst P (sym (ap (option_and_then g) h)) (k x)
 agrees_then lacks o f g h k = ap (option_and_then g) h
-agrees_then (passes w) o f g h k = tt
+agrees_then (passes w) o f g h k = h
 
 pub agrees_as : {A : Type 0} (m : Met A) (o p : Option A) → Agrees m o → o ≡ p → Agrees m p
 agrees_as {A} m o p h e = let P : Option A → Type 0 = λ q. Agrees m q in subst P e h
@@ -39,16 +43,16 @@ pub met_as : {A : Type 0} (m n : Met A) (o : Option A) → Agrees m o → n ≡ 
 met_as {A} m n o h e = let P : Met A → Type 0 = λ q. Agrees q o in subst P (sym e) h
 
 -- ---- operations
-if_wide : (b : Bool) (w : Wide) (x : Fraction) → Agrees (cond b (passes w) (found x)) (Some x)
-if_wide true w x = tt
-if_wide false w x = refl
+if_wide : (b : Bool) (w : Wide) (x : Fraction) → (b ≡ true → IsPast w) → Agrees (cond b (passes w) (found x)) (Some x)
+if_wide true w x past = past refl
+if_wide false w x past = refl
 
 pub agrees_operated : (op : Op) (x y : Fraction) → Agrees (operated op x y) (Some (operations.value_of op x y))
-agrees_operated op x y = if_wide (passes_128 op x y) (wide op x y) (operations.value_of op x y)
+agrees_operated op x y = if_wide (passes_128 op x y) (wide op x y) (operations.value_of op x y) (λ e. e)
 
-behind_operated : (b : Bool) (w : Wide) (x : Fraction) (f : Fraction → Met Fraction) (o : Option Fraction) → Agrees (f x) o → Agrees (and_then (cond b (passes w) (found x)) f) o
-behind_operated true w x f o h = tt
-behind_operated false w x f o h = h
+behind_operated : (b : Bool) (w : Wide) (x : Fraction) (f : Fraction → Met Fraction) (o : Option Fraction) → (b ≡ true → IsPast w) → Agrees (f x) o → Agrees (and_then (cond b (passes w) (found x)) f) o
+behind_operated true w x f o past h = past refl
+behind_operated false w x f o past h = h
 
 both_is : (g : Fraction → Fraction → Fraction) (a b : Option Fraction) → option_and_then (λ x. option_and_then (λ y. Some (g x y)) b) a ≡ with_both g a b
 both_is g None b = refl
@@ -85,7 +89,7 @@ module _ (o : Op) (g : Fraction → Fraction → Fraction) (all : List (Option F
         let rest = all (map value (map (λ (q : (e : E) × agree e). q.0) parts)) in
         agrees_as (and_then (met p.0) (λ y. and_then (operated o x y) (λ z. folded_from o z ms))) _ _
         (agrees_then (met p.0) (value p.0) (λ y. and_then (operated o x y) (λ z. folded_from o z ms)) (λ y. with_both g (Some (g x y)) rest) (agrees p.0 p.1)
-        (λ y. behind_operated (passes_128 o x y) (wide o x y) (operations.value_of o x y) (λ z. folded_from o z ms) (with_both g (Some (g x y)) rest)
+        (λ y. behind_operated (passes_128 o x y) (wide o x y) (operations.value_of o x y) (λ z. folded_from o z ms) (with_both g (Some (g x y)) rest) (λ e. e)
         (let P : Fraction → Type 0 = λ v. Agrees (folded_from o v ms) (with_both g (Some (g x y)) rest) in subst P (sym (is x y)) (fold_agrees (g x y) parts))))
         (regroup x (value p.0) rest ∙ ap (with_both g (Some x)) (sym (one (value p.0) (map value (map (λ (q : (e : E) × agree e). q.0) parts)))))
 
@@ -143,7 +147,7 @@ module _ (state : PlanState) (args : List ℕ) where
   negative : (m : Met Fraction) (o : Option Fraction) → Agrees m o → Agrees (and_then m (λ x. found (neg_ℚ x))) (option_map neg_ℚ o)
   negative (found x) o h = ap (option_map neg_ℚ) h
   negative lacks o h = ap (option_map neg_ℚ) h
-  negative (passes w) o h = tt
+  negative (passes w) o h = h
 
   two : (m n : Met Fraction) (a b : Option Fraction) → Agrees m a → Agrees n b → Agrees (and_then m (λ x. and_then n (λ y. operated op.Sub x y))) (with_both minus a b)
   two m n a b h k =
@@ -187,6 +191,9 @@ module _ (state : PlanState) (args : List ℕ) where
 
   pub found_is : (e : Expr) (x : Fraction) → evaluated state args e ≡ found x → value_of state args e ≡ Some x
   found_is e x is = let P : Met Fraction → Type 0 = λ m. Agrees m (value_of state args e) in subst P is (value_agrees e)
+
+  pub passes_is : (e : Expr) (w : Wide) → evaluated state args e ≡ passes w → IsPast w
+  passes_is e w is = let P : Met Fraction → Type 0 = λ m. Agrees m (value_of state args e) in subst P is (value_agrees e)
 
   pub lacks_is : (e : Expr) → evaluated state args e ≡ lacks → value_of state args e ≡ None
   lacks_is e is = let P : Met Fraction → Type 0 = λ m. Agrees m (value_of state args e) in subst P is (value_agrees e)

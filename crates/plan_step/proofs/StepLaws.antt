@@ -217,7 +217,7 @@ is_there r a e is also = cc
 action_found : (n : ℕ) (o : Option Action) (a : Action) → o ≡ Some a → length a.params ≡ n → action_with n o ≡ Ok a
 action_found n o a is arity = ap (action_with n) is ∙ ap (λ b. cond b (Ok a) (Err fail.Arity)) (eq-eqb (length a.params) n arity)
 
-one_list : (cs ds : List Change) → map (λ (c : Change). Some c) cs ≡ map (λ (c : Change). Some c) ds → cs ≡ ds
+pub one_list : (cs ds : List Change) → map (λ (c : Change). Some c) cs ≡ map (λ (c : Change). Some c) ds → cs ≡ ds
 one_list [] [] is = refl
 one_list [] (d ∷ ds) is = cc
 one_list (c ∷ cs) [] is = cc

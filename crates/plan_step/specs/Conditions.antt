@@ -1,4 +1,5 @@
--- Conditions: the list of their leaves, numbered from 0 in text order, each of which has to hold.
+-- Conditions: the list of their leaves, numbered from 0 in text order, each of which has to hold (PDDL 2.1; that a
+-- comparison without a value doesn't hold is this project's).
 use Rattle.std.specs.Prelude.{ℕ, ◌+◌, Bool, true, false, not, ◌==◌, List, [], ◌∷◌, map, Result, Ok, Err, if◌then◌else◌}
 use Rattle.frac128.specs.declared.operations.Wide.{Wide}
 use Rattle.pddl_task.specs.declared.condition.Cond.{Cond}

@@ -1,5 +1,6 @@
--- Effects: the list of their leaves, numbered from 0 in text order. All right sides are evaluated in the state before the
--- step; then deleted atoms become false, then added atoms become true, and functions change.
+-- Effects: the list of their leaves, numbered from 0 in text order. All right sides are evaluated in the state before
+-- the step; then deleted atoms become false, then added atoms become true, and functions change (PDDL 2.1; clashes and
+-- functions without a value are this project's).
 use Rattle.std.specs.Prelude.{ℕ, ◌+◌, Bool, true, false, not, ◌&&◌, ◌||◌, ◌==◌, bytes_eq, List, [], ◌∷◌, ◌++◌, Option, Some, Result, Ok, Err, if◌then◌else◌}
 use Rattle.std.specs.List.{list_any}
 use Rattle.rational.specs.Fraction.{Fraction}

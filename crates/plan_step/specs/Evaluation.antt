@@ -1,6 +1,6 @@
--- The value of an expression in a state, at the arguments of an instance: it is evaluated inside out and from the left, up
--- to the first part that has no value (a function without one, or a division by 0) or the first operation that passes
--- 128 bits. `Meaning` has the same without the bound.
+-- The value of an expression in a state, at the arguments of an instance: it is evaluated inside out and from the left,
+-- up to the first part that has no value (a function without one, or a division by 0) or the first operation that
+-- passes 128 bits (this project). `Meaning` has the same without the bound.
 use Rattle.std.specs.Prelude.{ℕ, Bool, false, ◌==◌, List, [], ◌∷◌, map, slice_index, ℤ, pos, if◌then◌else◌}
 use Rattle.rational.specs.Fraction.{Fraction, whole, neg_ℚ}
 use Rattle.frac128.specs.declared.operations.Op.{Op}

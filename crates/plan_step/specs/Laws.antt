@@ -1,4 +1,5 @@
 -- Words for the laws of a step.
+use Rattle.frac128.specs.Operations.{Passes}
 use Rattle.plan_step.specs.declared.failure.StepFail.{StepFail}
 use Rattle.plan_step.specs.declared.failure.StepFail.TheVariants as fail
 
@@ -11,3 +12,13 @@ IsWide (fail.Condition i) = ⊥
 IsWide (fail.NoValue i) = ⊥
 IsWide (fail.Clash i) = ⊥
 IsWide fail.Memory = ⊥
+
+-- where the failure is an operation, that passes 128 bits by the numbers that it names; it is never want of memory
+abbrev pub TellsWide : StepFail → Type 0
+TellsWide (fail.Wide w) = Passes w.op w.x w.y
+TellsWide fail.Arity = Unit {0}
+TellsWide fail.ArgType = Unit {0}
+TellsWide (fail.Condition i) = Unit {0}
+TellsWide (fail.NoValue i) = Unit {0}
+TellsWide (fail.Clash i) = Unit {0}
+TellsWide fail.Memory = ⊥

@@ -1,4 +1,4 @@
--- What an evaluation meets.
+-- What an evaluation meets (this project).
 use Rattle.std.specs.Prelude.{◌^◌, Bool, nat_le, ℤ, unsigned_abs, Option, Some, None, Result, Ok, Err, if◌then◌else◌}
 use Rattle.std.specs.List.{list_any}
 use Rattle.rational.specs.Fraction.{Fraction}

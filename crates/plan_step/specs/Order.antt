@@ -1,4 +1,4 @@
--- The order of two values, as a test.
+-- The order of two values, as a test (arithmetic).
 use Rattle.std.specs.Prelude.{Bool, not, ◌&&◌, pos}
 use lib.Signed.{lt_z}
 use Rattle.rational.specs.Fraction.{Fraction, ◌-ℚ◌}

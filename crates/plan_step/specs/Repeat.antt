@@ -1,4 +1,4 @@
--- Repeating an instance: so many of its steps in turn, up to the first that fails.
+-- Repeating an instance (this project): so many of its steps in turn, up to the first that fails.
 use Rattle.std.specs.Prelude.{◌≡◌, ℕ, zero, suc, ◌+◌, Result, Ok, Err}
 use Rattle.pddl_task.specs.declared.instance.Instance.{Instance}
 use Rattle.pddl_task.specs.declared.parts.TaskParts.{TaskParts}

@@ -51,6 +51,7 @@ typed_arguments task a args = if all_fit task a.params args then Ok tt else Err 
 
 abbrev pub with_values : List Change → PlanState → Met (ℕ → List ℕ → Option Fraction) → Result PlanState StepFail
 with_values changes state (found values) = Ok (record { truth = truth_behind changes state.truth; value = values })
+-- this never comes: each change has its values
 with_values changes state lacks = Ok state
 with_values changes state (passes w) = Err (fail.Wide w)
 

@@ -4,7 +4,7 @@ ghost use Rattle.std.specs.Prelude.{◌≡◌};
 use frac128::Wide;
 use std::alloc::AllocError;
 
-/// Why an instance has no step from a state. Leaves are numbered from 0, in text order.
+/// Why a step of an instance isn't made. Leaves are numbered from 0, in text order.
 #[derive(Debug, Drop)]
 pub enum StepFail {
     /// The action isn't there, or takes another number of arguments.

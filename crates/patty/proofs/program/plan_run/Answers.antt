@@ -1,30 +1,33 @@
-use Rattle.patty.proofs.StatusLaws as status
-use Rattle.patty.proofs.DueLaws.{due}
+use Rattle.std.proofs.Common.{inl, arith}
+use Rattle.patty_run.proofs.StatusLaws as status
+use Rattle.patty_run.proofs.DueLaws.{due}
+use Rattle.patty.specs.Planner.{planner}
+use Rattle.patty.proofs.PlannerLaws.{lawful, plan, refuted, refused}
 use Rattle.patty.proofs.program.plan_run.Goals as goal
 
 pub returns-clause-plan : goal.returns-clause-plan
-returns-clause-plan g c = status.plan _ _ _ _ _ _ _ _ _ c.run.ensures
+returns-clause-plan g c = λ is. plan _ _ _ _ (status.answered planner lawful _ _ _ _ _ _ _ _ _ c.run.ensures 0 (inl (omega arith)) is)
 
 pub returns-clause-refuted : goal.returns-clause-refuted
-returns-clause-refuted g c = status.refuted _ _ _ _ _ _ _ _ _ c.run.ensures
+returns-clause-refuted g c = λ is. refuted _ _ _ _ (status.answered planner lawful _ _ _ _ _ _ _ _ _ c.run.ensures 1 (inl (omega arith)) is)
 
 pub returns-clause-refused : goal.returns-clause-refused
-returns-clause-refused g c = status.refused _ _ _ _ _ _ _ _ _ c.run.ensures
+returns-clause-refused g c = λ is. refused _ _ _ _ (status.refused planner lawful _ _ _ _ _ _ _ _ _ c.run.ensures is)
 
 pub returns-clause-usage : goal.returns-clause-usage
-returns-clause-usage g c = status.usage _ _ _ _ _ _ _ _ _ c.run.ensures
+returns-clause-usage g c = status.usage planner lawful _ _ _ _ _ _ _ _ _ c.run.ensures
 
 pub returns-clause-read_fault : goal.returns-clause-read_fault
-returns-clause-read_fault g c = status.read_fault _ _ _ _ _ _ _ _ _ c.run.ensures
+returns-clause-read_fault g c = status.read_fault planner lawful _ _ _ _ _ _ _ _ _ c.run.ensures
 
 pub returns-clause-write_fault : goal.returns-clause-write_fault
-returns-clause-write_fault g c = status.write_fault _ _ _ _ _ _ _ _ _ c.run.ensures
+returns-clause-write_fault g c = status.write_fault planner lawful _ _ _ _ _ _ _ _ _ c.run.ensures
 
 pub returns-clause-started : goal.returns-clause-started
-returns-clause-started g c = status.started _ _ _ _ _ _ _ _ _ c.run.ensures
+returns-clause-started g c = status.started planner lawful _ _ _ _ _ _ _ _ _ c.run.ensures
 
 pub returns-clause-due : goal.returns-clause-due
-returns-clause-due g c = due _ _ _ _ _ _ _ _ _ c.run.ensures
+returns-clause-due g c = due _ _ _ planner lawful _ _ _ _ _ _ c.run.ensures
 
 pub returns-clause-written_well : goal.returns-clause-written_well
-returns-clause-written_well g c = status.written_well _ _ _ _ _ _ _ _ _ c.run.ensures
+returns-clause-written_well g c = status.written_well planner lawful _ _ _ _ _ _ _ _ _ c.run.ensures

@@ -1,0 +1,7 @@
+pub mod TextLaws
+pub mod TakingLaws
+pub mod PrintLaws
+pub mod DecidingLaws
+pub mod TaskLaws
+pub mod StatusLaws
+pub mod DueLaws
