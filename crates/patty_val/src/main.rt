@@ -1,0 +1,35 @@
+//! The validator's program: `patty_val DOMAIN PROBLEM PLAN`.
+//!
+//! `main` makes the adapters to the system and hands its words to `val_run`, which does the work.
+#![tactic(auto)]
+
+mod answer;
+mod judging;
+mod lines;
+mod printing;
+mod program;
+#[cfg(test)]
+mod tests;
+
+use patty_io::{DiskShelf, OutSink};
+use patty_run::{STATUS_OF_MEMORY, words_of};
+use program::val_run;
+use std::alloc::Global;
+use std::io::ErrorKind;
+use std::process::ExitCode;
+
+fn main(rt: HostRuntime) -> ExitCode {
+    let alloc: Global = rt.alloc();
+    let words = match words_of(&rt) {
+        Ok(words) => words,
+        Err(error) if error.kind() == ErrorKind::OutOfMemory => {
+            return ExitCode::from(STATUS_OF_MEMORY);
+        }
+        // Words that aren't text aren't the right ones.
+        Err(_) => Vec::new(alloc),
+    };
+    let mut files = DiskShelf::new(&rt, alloc);
+    let mut out = OutSink::new(&rt);
+    let status = val_run(alloc, &words, &mut files, &mut out);
+    ExitCode::from(status.code)
+}

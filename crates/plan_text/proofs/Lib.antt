@@ -1,0 +1,15 @@
+pub mod Arguments
+pub mod Counts
+pub mod Finishing
+pub mod GoodPlans
+pub mod Grown
+pub mod LeastFault
+pub mod LineLaws
+pub mod LinesLaws
+pub mod Noting
+pub mod Numbering
+pub mod Parts
+pub mod Pieces
+pub mod RoundTrip
+pub mod Spelling
+pub mod WrittenLines

@@ -1,0 +1,6 @@
+use Rattle.std.proofs.Common.{take, map}
+use Rattle.plan_text.specs.inside.Numbering.{IsNumbering}
+use Rattle.plan_text.proofs.numbers.number_actions.Given as goal
+
+abbrev pub invariant-loop-place : goal.invariant-loop-place
+invariant-loop-place l = IsNumbering (map (λ a. a.name) (take l.place l.actions)) l.numbers

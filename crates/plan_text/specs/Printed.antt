@@ -1,0 +1,36 @@
+-- How a plan is written, and how long it is.
+use Rattle.std.specs.Prelude.{◌≡◌, ℕ, ◌-◌, ◌^◌, Bool, true, ◌&&◌, nat_le, nat_lt, min, sum_by, List, [], ◌++◌, length, codes, slice_get, unwrap_or}
+use Rattle.std.specs.List.{list_all, flat_map}
+use Rattle.std.specs.Option.{option_map}
+use Rattle.std.specs.Fmt.{decimal}
+use Rattle.pddl_task.specs.declared.parts.TaskParts.{TaskParts}
+use Rattle.plan_text.specs.declared.plan.Part.{Part}
+
+-- the numbers of its parts are those of the task's actions and objects
+abbrev pub is_part_of : TaskParts → Part → Bool
+is_part_of task part = nat_lt part.by.action (length task.actions) && list_all (λ o. nat_lt o (length task.objects)) part.by.args
+
+-- each part is made at least once
+abbrev pub AreCounted : List Part → Type 0
+AreCounted plan = list_all (λ part. nat_le 1 part.count) plan ≡ true
+
+abbrev pub IsPlanOf : TaskParts → List Part → Type 0
+IsPlanOf task plan = list_all (is_part_of task) plan ≡ true
+
+abbrev pub action_name : TaskParts → ℕ → List ℕ
+action_name task action = unwrap_or (option_map (λ a. a.name) (slice_get task.actions action)) []
+
+abbrev pub object_name : TaskParts → ℕ → List ℕ
+object_name task object = unwrap_or (option_map (λ o. o.name) (slice_get task.objects object)) []
+
+-- `COUNT (NAME ARG ..)` with single spaces, and a line feed
+abbrev pub part_text : TaskParts → Part → List ℕ
+part_text task part =
+    decimal part.count ++ (codes " (" ++ (action_name task part.by.action ++ (flat_map (λ o. codes " " ++ object_name task o) part.by.args ++ codes ")\n")))
+
+unfoldable pub plan_text : TaskParts → List Part → List ℕ
+plan_text task plan = flat_map (part_text task) plan
+
+-- the number of its steps, where a number of 128 bits holds it, and else the last such number
+abbrev pub flat_length : List Part → ℕ
+flat_length plan = min (sum_by (λ part. part.count) plan) (2 ^ 128 - 1)

@@ -1,0 +1,13 @@
+(define (problem two-parcels)
+  (:domain delivery)
+  (:objects north south east - place van - truck letter crate - parcel)
+  (:init
+    (at van north) (waits letter south) (waits crate south)
+    (= (fuel van) 2.5) (= (tank van) 12)
+    (= (freight van) 0) (= (capacity van) 10)
+    (= (weight letter) 0.5) (= (weight crate) 9.5)
+    (= (road north south) 8) (= (road south north) 8)
+    (= (road south east) 30) (= (road east south) 30)
+    (= (driven) 0))
+  (:goal (and (waits letter east) (waits crate east) (<= (driven) 40)))
+  (:metric minimize (driven)))
