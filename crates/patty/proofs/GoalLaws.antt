@@ -1,16 +1,14 @@
 -- A goal without a comparison meets no operation, and holds or doesn't by the truth of its atoms.
-use Rattle.std.proofs.Common.{◌≡◌, ℕ, Bool, true, false, List, [], ◌∷◌, Result, Ok, Err, refl, sym, ◌∙◌, ap}
-use Rattle.std.specs.Prelude.{◌&&◌, ◌==◌, ◌||◌}
-use Rattle.std.specs.List.{list_all, list_any}
+use Rattle.std.proofs.Common.{◌≡◌, Bool, true, false, List, [], ◌∷◌, Result, Ok, Err, refl, sym, ◌∙◌, ap}
+use Rattle.std.specs.Prelude.{◌&&◌}
 use Rattle.frac128.specs.declared.operations.Wide.{Wide}
 use Rattle.pddl_task.specs.declared.condition.Cond.{Cond}
 use Rattle.pddl_task.specs.declared.condition.Cond.TheVariants as cond
 use Rattle.plan_step.specs.State.{PlanState}
 use Rattle.plan_step.specs.Met.{Met, found}
-use Rattle.plan_step.specs.Evaluation.{object_of, objects_of}
-use Rattle.plan_step.specs.Conditions.{signed, leaf_met, leaves_met, all_met, goal_met}
-use Rattle.plan_step.specs.Meaning.{holds, all_hold}
-use Rattle.patty.specs.Goal.{is_comparison, has_comparison}
+use Rattle.plan_step.specs.Conditions.{leaves_met, all_met, goal_met}
+use Rattle.plan_step.specs.Meaning.{all_hold}
+use Rattle.patty.specs.Goal.{has_comparison}
 
 -- what a test answers
 abbrev answer : Bool → Result Bool Wide

@@ -2,7 +2,7 @@
 use Rattle.std.proofs.Common.{◌≡◌, ◌⊎◌, inl, inr, ℕ, ◌<◌, List, [], ◌∷◌, Option, Some, None, Ok, refl, sym, ◌∙◌, ap, ap₂, subst, arith}
 use Rattle.std.specs.Io.KnownBytes.{Appends}
 use Rattle.pddl_form.specs.declared.fault.Fault.{Fault}
-use Rattle.pddl_form.specs.Judged.{Judged, good, noted}
+use Rattle.pddl_form.specs.Judged.{good, noted}
 use Rattle.pddl_form.proofs.Judging.{noted-good}
 use Rattle.pddl_task.specs.declared.parts.TaskParts.{TaskParts}
 use Rattle.plan_step.specs.declared.failure.StepFail.{StepFail}
