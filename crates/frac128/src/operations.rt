@@ -9,6 +9,7 @@ ghost use Rattle.frac128.specs.Operations.{Answers, SumOrPast, ProductOrPast};
 use crate::fraction::{Frac, lowest, whole_number};
 use crate::gcd::divisor;
 use crate::integer::{plus, reduced, shrink, times};
+use thiserror::Error;
 
 /// An operation on two fractions.
 #[derive(Clone, Copy, PartialEq, Eq, Debug)]
@@ -20,7 +21,8 @@ pub enum Op {
 }
 
 /// An operation that named a number past 128 bits, with its operands as they were given.
-#[derive(Clone, Copy, PartialEq, Eq, Debug)]
+#[derive(Clone, Copy, PartialEq, Eq, Debug, Error)]
+#[error("the operation {op:?} passes 128 bits")]
 pub struct Wide {
     pub op: Op,
     pub x: Frac,

@@ -11,12 +11,15 @@ use crate::fraction::{Frac, lowest};
 use crate::gcd::divisor;
 use crate::spelling::{number, split_parts};
 use std::alloc::AllocError;
+use thiserror::Error;
 
 /// Why a text gives no fraction. `Form`: it isn't of the form, or isn't in lowest terms. `Wide`: one of its numbers is
 /// past 2^127 - 1, or more than 38 digits behind the point count.
-#[derive(Clone, Copy, PartialEq, Eq, Debug)]
+#[derive(Clone, Copy, PartialEq, Eq, Debug, Error)]
 pub enum NumFault {
+    #[error("not of the form of a number")]
     Form,
+    #[error("a number past 128 bits")]
     Wide,
 }
 

@@ -32,7 +32,7 @@ impl Model for Hierarchy {
 }
 
 impl Hierarchy {
-    /// Takes time in proportion to the number of types.
+    /// The types of which each has the one above it that stands at its number. It takes time in proportion to their number.
     pub fn new(alloc: Global, parents: Vec<u32>) -> Result<Hierarchy, AllocError>
         requires hierarchy { IsHierarchy parents.items }
         requires few { length parents.items < 2 ^ 32 }

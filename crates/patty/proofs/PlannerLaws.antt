@@ -2,8 +2,8 @@
 use Rattle.std.proofs.Common.{◌≡◌, ◌⊎◌, inl, inr, ℕ, ◌<◌, Bool, true, false, List, Option, Ok, refl, sym, ◌∙◌, arith}
 use Rattle.pddl_task.specs.declared.parts.TaskParts.{TaskParts}
 use Rattle.patty_run.specs.Inputs.{InputFile}
-use Rattle.patty_run.specs.Statuses.{Comes, Answered, IsRefused}
-use Rattle.patty_run.proofs.StatusLaws.{IsLawful}
+use Rattle.patty_run.specs.Statuses.{Comes, IsRefused}
+use Rattle.patty_run.proofs.StatusLaws.{IsLawful, Answered}
 use Rattle.patty.specs.declared.answer.Answer.{Answer}
 use Rattle.patty.specs.declared.answer.Answer.TheVariants as answer
 use Rattle.patty.specs.Goal.{has_comparison}

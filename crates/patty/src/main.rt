@@ -11,7 +11,7 @@ mod program;
 mod tests;
 
 use patty_io::{DiskShelf, OutSink};
-use patty_run::{STATUS_OF_MEMORY, words_of};
+use patty_run::{Stop, exit_of, status_of_stop, words_of};
 use program::plan_run;
 use std::alloc::Global;
 use std::io::ErrorKind;
@@ -22,13 +22,12 @@ fn main(rt: HostRuntime) -> ExitCode {
     let words = match words_of(&rt) {
         Ok(words) => words,
         Err(error) if error.kind() == ErrorKind::OutOfMemory => {
-            return ExitCode::from(STATUS_OF_MEMORY);
+            return ExitCode::from(status_of_stop(&Stop::Memory));
         }
         // Words that aren't text aren't the right ones.
         Err(_) => Vec::new(alloc),
     };
     let mut files = DiskShelf::new(&rt, alloc);
     let mut out = OutSink::new(&rt);
-    let status = plan_run(alloc, &words, &mut files, &mut out);
-    ExitCode::from(status.code)
+    exit_of(plan_run(alloc, &words, &mut files, &mut out))
 }

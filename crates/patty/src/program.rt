@@ -1,11 +1,12 @@
 //! The planner's top call: first a verdict on the words, the files and the texts, then its lines.
 //!
-//! `plan_run` carries a clause for each status, and one that says which status is due.
+//! `plan_run` carries a clause for each status, and one that says which verdict is due.
 ghost use Rattle.std.specs.Prelude.{◌≡◌, ◌≢◌, ◌⊎◌, [], ◌∷◌, Result, Ok, Some};
 ghost use Rattle.patty_io.specs.Faults.{Rose};
 ghost use Rattle.patty_run.specs.declared.input.Input.TheVariants as input;
 ghost use Rattle.patty_run.specs.declared.stop.Stop.{Stop as Stopped};
 ghost use Rattle.patty_run.specs.Inputs.{input_file};
+ghost use Rattle.patty_run.specs.Counts.{AreSame, KeepsCounts};
 ghost use Rattle.patty_run.specs.Runs.{Causes};
 ghost use Rattle.patty_run.specs.Statuses.{Runs, Comes, IsRefused, IsUsage, FailsToRead, IsStarted, IsDue, Ends};
 ghost use Rattle.patty.specs.declared.answer.Answer.{Answer as Answers};
@@ -26,7 +27,8 @@ fn judge_files<F: Shelf>(
     problem: &str,
     files: &mut F,
 ) -> Result<Answer, Stop>
-    ensures { Causes planner (F.content files.old) (F.faults files.old) (F.faults files.new) (Some (input_file input.Domain domain.now ∷ input_file input.Problem problem.now ∷ [])) result }
+    ensures caused { Causes planner (F.content files.old) (F.faults files.old) (F.faults files.new) (Some (input_file input.Domain domain.now ∷ input_file input.Problem problem.now ∷ [])) result }
+    ensures counts { KeepsCounts (F.faults files.old) (F.faults files.new) result }
 {
     let inputs = [
         NamedInput {
@@ -49,7 +51,8 @@ fn judge_files<F: Shelf>(
 }
 
 fn judge<F: Shelf>(alloc: Global, words: &[String], files: &mut F) -> Result<Answer, Stop>
-    ensures { Causes planner (F.content files.old) (F.faults files.old) (F.faults files.new) (files_of words.now) result }
+    ensures caused { Causes planner (F.content files.old) (F.faults files.old) (F.faults files.new) (files_of words.now) result }
+    ensures counts { KeepsCounts (F.faults files.old) (F.faults files.new) result }
 {
     match words {
         [domain, problem, option, value] if option.as_str() == "--max-n" && value.as_str() == "0" =>
@@ -86,8 +89,9 @@ pub fn plan_run<F: Shelf, O: Sink>(
     // Some verdict has its cause, and its lines are printed with its status, or a front of them.
     ensures runs { Runs planner (F.content files.old) (F.faults files.old) (F.faults files.new) (files_of words.now) (O.written out.old) (O.written out.new) (O.faults out.old) (O.faults out.new) result.code }
 
-    // A failed write always shows in the status.
-    ensures written_well { result.code ≢ 6 → result.code ≢ 7 → O.faults out.new ≡ O.faults out.old }
+    // A failed write that the sink counts shows in the status, and so does a failed read that the shelf counts.
+    ensures written_well { result.code ≢ 6 → O.faults out.new ≡ O.faults out.old }
+    ensures read_well { result.code ≢ 5 → result.code ≢ 6 → result.code ≢ 7 → AreSame (F.faults files.old) (F.faults files.new) }
 
     // Whatever the status, also after a failed write and where memory ran out, a front of the lines of some
     // verdict that has its cause was written.

@@ -1,7 +1,7 @@
 //! The standard output, as a sink.
 ghost use Rattle.std.specs.Prelude.{◌≡◌, None};
 ghost use Rattle.patty_io.specs.Faults.{capped};
-ghost use Rattle.patty_io.specs.Sink.{WritesWhole};
+ghost use Rattle.patty_io.specs.Sink.{HasCause, Puts, WritesWhole};
 
 use crate::{Sink, SinkFail};
 use std::io;
@@ -39,16 +39,24 @@ fn write_whole<W: Write>(out: &mut W, bytes: &[u8]) -> bool
     true
 }
 
+/// Writes a piece whole, or counts a fault. A writer that tells what it holds shows that nothing is left out.
+fn put_to<W: Write>(out: &mut W, faults: &mut u64, bytes: &[u8]) -> Result<(), SinkFail>
+    ensures bytes { Puts (W.contents out.old) (W.contents out.new) result bytes.now }
+    ensures cause { HasCause (capped faults.old) (capped faults.new) result }
+{
+    if write_whole(out, bytes) {
+        return Ok(());
+    }
+    *faults = faults.saturating_add(1);
+    Err(SinkFail::Failed)
+}
+
 impl<'a, R: Print> Sink for OutSink<'a, R> {
     ghost written = { λ _. None };
 
     ghost faults = { λ s. capped s.faults };
 
     fn put(&mut self, bytes: &[u8]) -> Result<(), SinkFail> {
-        if write_whole(&mut io::writer(self.rt), bytes) {
-            return Ok(());
-        }
-        self.faults = self.faults.saturating_add(1);
-        Err(SinkFail::Failed)
+        put_to(&mut io::writer(self.rt), &mut self.faults, bytes)
     }
 }

@@ -6,17 +6,22 @@ ghost use Rattle.std.specs.Prelude.{◌≡◌, ◌≢◌, ℕ, List, [], ◌≤�
 ghost use Rattle.std.specs.declared.option.Option.{Option};
 ghost use Rattle.patty_io.specs.Shelf.{Takes, HasCause};
 
+use thiserror::Error;
+
 /// The length of the longest file that is taken, in bytes.
 pub const LIMIT: usize = 67_108_864;
 
 /// Why a file wasn't taken.
-#[derive(Clone, Copy, Debug, PartialEq, Eq)]
+#[derive(Clone, Copy, Debug, PartialEq, Eq, Error)]
 pub enum ShelfFail {
     /// It couldn't be read.
+    #[error("the file can't be read")]
     Failed,
     /// It has more than `LIMIT` bytes.
+    #[error("the file has more than {LIMIT} bytes")]
     Long,
     /// Memory ran out.
+    #[error("out of memory")]
     Memory,
 }
 

@@ -5,12 +5,16 @@ ghost use Rattle.std.specs.Prelude.{◌≡◌, ℕ, List};
 ghost use Rattle.std.specs.declared.option.Option.{Option};
 ghost use Rattle.patty_io.specs.Sink.{Puts, HasCause};
 
+use thiserror::Error;
+
 /// Why a piece wasn't written whole.
-#[derive(Clone, Copy, Debug, PartialEq, Eq)]
+#[derive(Clone, Copy, Debug, PartialEq, Eq, Error)]
 pub enum SinkFail {
     /// The outside took only a front of it, perhaps nothing.
+    #[error("the piece can't be written")]
     Failed,
     /// Memory ran out, and nothing of it was written.
+    #[error("out of memory")]
     Memory,
 }
 

@@ -146,14 +146,14 @@ module _ (content : List ℕ → Option (List ℕ)) (before now : List ℕ → �
     due_one (Some files) v w called is = files_one files v w called is
 
     module _ (old new : Option (List ℕ)) (writes_before writes_now code : ℕ) where
-      ends : (v w : Result A Stop) → IsOne v w → code ≡ status_of program w → Appends old new (joined (lines_of program w)) → Ends program v old new writes_before writes_now code
-      ends v w (inl same) is printed = inl (is ∙ ap (status_of program) same, subst (λ (u : Result A Stop). Appends old new (joined (lines_of program u))) same printed)
-      ends v w (inr memory) is printed = inr (inr (is ∙ ap (status_of program) memory))
+      ends : (v w : Result A Stop) → IsOne v w → code ≡ status_of program w → Appends old new (joined (lines_of program w)) → writes_now ≡ writes_before → Ends program v old new writes_before writes_now code
+      ends v w (inl same) is printed well = inl (is ∙ ap (status_of program) same, subst (λ (u : Result A Stop). Appends old new (joined (lines_of program u))) same printed)
+      ends v w (inr memory) is printed well = inr (inr (is ∙ ap (status_of program) memory, well))
 
       pub due : (named : Option (List InputFile)) → Runs program content before now named old new writes_before writes_now code
           → (v : Result A Stop) → IsDue program content before now named v → Ends program v old new writes_before writes_now code
       due named run v called = elim run.printed [
-        | inl whole ↦ ends v run.verdict (due_one named v run.verdict called run.caused) whole.0 whole.1
+        | inl whole ↦ ends v run.verdict (due_one named v run.verdict called run.caused) whole.0 whole.1 whole.2
         | inr (front, inl failed) ↦ inr (inl failed)
         | inr (front, inr memory) ↦ inr (inr memory)
       ]

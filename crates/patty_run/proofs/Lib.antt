@@ -1,5 +1,6 @@
 pub mod TextLaws
 pub mod TakingLaws
+pub mod CountLaws
 pub mod PrintLaws
 pub mod DecidingLaws
 pub mod TaskLaws

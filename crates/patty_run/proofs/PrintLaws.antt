@@ -55,14 +55,14 @@ module _ (old mid new : Option (List ℕ)) (lines : List (Bor (List ℕ))) (i : 
   -- a call that failed
   pub put_stops : (before after : ℕ) (e : SinkFail) → PutFails e mid new text → HasCause {T = Unit {0}} before after (Err e) → AppendsFront old new (joined (texts lines)) × StopsPrinting e before after
   put_stops before after fail.Failed fails cause = (put_front fails.0 fails.1, cause.1)
-  put_stops before after fail.Memory fails cause = (put_front 0 (appends_none mid new fails), tt)
+  put_stops before after fail.Memory fails cause = (put_front 0 (appends_none mid new fails), cause)
 
 -- what was written, with the status that stands for it
 pub printed_as : (old new : Option (List ℕ)) (before now : ℕ) (bytes : List ℕ) (status told code : ℕ) (r : Result (Unit {0}) SinkFail)
     → PutsAll old new before now bytes r → told ≡ status → code ≡ status_behind told r → PrintsAs old new before now bytes status code
 printed_as old new before now bytes status told code (Ok done) puts same is = inl (is ∙ same, puts.0, puts.1)
 printed_as old new before now bytes status told code (Err fail.Failed) puts same is = inr (puts.0, inl (is, puts.1))
-printed_as old new before now bytes status told code (Err fail.Memory) puts same is = inr (puts.0, inr is)
+printed_as old new before now bytes status told code (Err fail.Memory) puts same is = inr (puts.0, inr (is, puts.1))
 
 -- one piece
 pub put_one : (old new : Option (List ℕ)) (before now : ℕ) (bytes : List ℕ) (r : Result (Unit {0}) SinkFail) → Puts old new r bytes → HasCause before now r → PutsAll old new before now bytes r
@@ -70,4 +70,4 @@ put_one old new before now bytes (Ok done) puts cause = (puts, cause)
 put_one old new before now bytes (Err fail.Failed) puts cause =
     (record { front = take puts.0 bytes; rest = drop puts.0 bytes; split = sym (take-append-drop puts.0 bytes); added = puts.1 }, cause.1)
 put_one old new before now bytes (Err fail.Memory) puts cause =
-    (record { front = []; rest = bytes; split = refl; added = appends_none old new puts }, tt)
+    (record { front = []; rest = bytes; split = refl; added = appends_none old new puts }, cause)

@@ -8,8 +8,9 @@ use Rattle.patty_run.specs.declared.stop.Stop.{Stop}
 use Rattle.patty_run.specs.declared.stop.Stop.TheVariants as stop
 use Rattle.patty_run.specs.Inputs.{InputFile}
 use Rattle.patty_run.specs.Printed.{joined, stop_status}
+use Rattle.patty_run.specs.Counts.{AreSame, KeepsCounts}
 use Rattle.patty_run.specs.Runs.{Program, Causes, lines_of, status_of}
-use Rattle.patty_run.specs.Statuses.{Runs, Answered, IsRefused, IsUsage, FailsToRead, IsStarted}
+use Rattle.patty_run.specs.Statuses.{Runs, Comes, IsRefused, IsUsage, FailsToRead, IsStarted}
 
 -- what a program's answers keep to
 pub record IsLawful {A : Type 0} (program : Program A) : Type 0 where
@@ -17,6 +18,12 @@ pub record IsLawful {A : Type 0} (program : Program A) : Type 0 where
   pub one : (task : TaskParts) (more : List (List ℕ)) (a b : A) → program.Answers task more a → program.Answers task more b → a ≡ b
   -- the statuses from 4 to 7 are those of runs without an answer
   pub free : (a : A) → (program.status a < 4) ⊎ (7 < program.status a)
+
+-- some answer with this status comes; a program says by its own clauses which it is
+pub record Answered {A : Type 0} (program : Program A) (content : List ℕ → Option (List ℕ)) (named : Option (List InputFile)) (old new : Option (List ℕ)) (status : ℕ) : Type 0 where
+  pub answer : A
+  pub status_is : program.status answer ≡ status
+  pub comes : Comes program content named old new (Ok answer)
 
 module _ {A : Type 0} (program : Program A) (lawful : IsLawful program) (content : List ℕ → Option (List ℕ)) (read_before read_now : List ℕ → ℕ)
     (named : Option (List InputFile)) (old new : Option (List ℕ)) (before now : ℕ) where
@@ -41,7 +48,7 @@ module _ {A : Type 0} (program : Program A) (lawful : IsLawful program) (content
   whole_at code run k is six seven = elim run.printed [
     | inl whole ↦ record { caused = run.caused; status = sym whole.0 ∙ is; printed = whole.1 }
     | inr (front, inl failed) ↦ absurd (six (sym is ∙ failed.0))
-    | inr (front, inr memory) ↦ absurd (seven (sym is ∙ memory))
+    | inr (front, inr memory) ↦ absurd (seven (sym is ∙ memory.0))
   ]
 
   -- ---- an answer's status
@@ -145,7 +152,7 @@ module _ {A : Type 0} (program : Program A) (lawful : IsLawful program) (content
   write_fault code run is = elim run.printed [
     | inl whole ↦ absurd (not_status_six run.verdict (sym whole.0 ∙ is))
     | inr (front, inl failed) ↦ failed.1
-    | inr (front, inr memory) ↦ absurd (omega (arith, memory, is))
+    | inr (front, inr memory) ↦ absurd (omega (arith, memory.0, is))
   ]
 
   -- what was written is a front of the lines of a verdict that has its cause
@@ -160,9 +167,25 @@ module _ {A : Type 0} (program : Program A) (lawful : IsLawful program) (content
   }
 
   -- a failed write shows in the status
-  pub written_well : (code : ℕ) → At code → (code ≡ 6 → ⊥) → (code ≡ 7 → ⊥) → now ≡ before
-  written_well code run six seven = elim run.printed [
+  pub written_well : (code : ℕ) → At code → (code ≡ 6 → ⊥) → now ≡ before
+  written_well code run six = elim run.printed [
     | inl whole ↦ whole.2
     | inr (front, inl failed) ↦ absurd (six failed.0)
-    | inr (front, inr memory) ↦ absurd (seven memory)
+    | inr (front, inr memory) ↦ memory.1
+  ]
+
+  -- so does a file that can't be read
+  read_at : (v : Result A Stop) (code : ℕ) → KeepsCounts read_before read_now v → code ≡ status_of program v → (code ≡ 5 → ⊥) → AreSame read_before read_now
+  read_at (Ok a) code kept is five = kept
+  read_at (Err stop.Usage) code kept is five = kept
+  read_at (Err (stop.ReadFault input)) code kept is five = absurd (five is)
+  read_at (Err (stop.Long input)) code kept is five = kept
+  read_at (Err (stop.Fault fault)) code kept is five = kept
+  read_at (Err stop.Memory) code kept is five = kept
+
+  pub read_well : (code : ℕ) → At code → (code ≡ 5 → ⊥) → (code ≡ 6 → ⊥) → (code ≡ 7 → ⊥) → AreSame read_before read_now
+  read_well code run five six seven = elim run.printed [
+    | inl whole ↦ read_at run.verdict code run.counts whole.0 five
+    | inr (front, inl failed) ↦ absurd (six failed.0)
+    | inr (front, inr memory) ↦ absurd (seven memory.0)
   ]

@@ -2,6 +2,7 @@ pub mod Inputs
 pub mod Texts
 pub mod Tasks
 pub mod Files
+pub mod Counts
 pub mod Printed
 pub mod Runs
 pub mod Statuses

@@ -72,7 +72,7 @@ pub record AppendsFront (old new : Option (List ℕ)) (bytes : List ℕ) : Type 
 
 abbrev pub StopsPrinting : SinkFail → ℕ → ℕ → Type 0
 StopsPrinting fail.Failed before now = Rose before now
-StopsPrinting fail.Memory before now = Unit {0}
+StopsPrinting fail.Memory before now = now ≡ before
 
 -- all bytes are written, or a front of them
 abbrev pub PutsAll : {T : Type 0} → Option (List ℕ) → Option (List ℕ) → ℕ → ℕ → List ℕ → Result T SinkFail → Type 0
@@ -80,11 +80,11 @@ PutsAll old new before now bytes (Ok done) = Appends old new bytes × (now ≡ b
 PutsAll old new before now bytes (Err e) = AppendsFront old new bytes × StopsPrinting e before now
 
 -- these bytes are written, with this status and no failure, or a front of them: then the status is 6 where the sink's
--- count of faults rose, or 7 for want of memory
+-- count of faults rose, or 7 for want of memory, where it is as before
 abbrev pub PrintsAs : Option (List ℕ) → Option (List ℕ) → ℕ → ℕ → List ℕ → ℕ → ℕ → Type 0
 PrintsAs old new before now bytes status code =
     ((code ≡ status) × Appends old new bytes × (now ≡ before))
-    ⊎ (AppendsFront old new bytes × (((code ≡ 6) × Rose before now) ⊎ (code ≡ 7)))
+    ⊎ (AppendsFront old new bytes × (((code ≡ 6) × Rose before now) ⊎ ((code ≡ 7) × (now ≡ before))))
 
 -- the status of a run whose lines were written, or weren't
 abbrev pub status_behind : {T : Type 0} → ℕ → Result T SinkFail → ℕ

@@ -8,6 +8,7 @@ use Rattle.patty_run.specs.declared.stop.Stop.{Stop}
 use Rattle.patty_run.specs.declared.stop.Stop.TheVariants as stop
 use Rattle.patty_run.specs.Inputs.{InputFile}
 use Rattle.patty_run.specs.Files.{AreTold, IsLongAt, IsLong, FailsAt}
+use Rattle.patty_run.specs.Counts.{KeepsCounts}
 use Rattle.patty_run.specs.Runs.{Program, Decides, Reads, Causes, lines_of, status_of}
 use Rattle.patty_run.specs.Printed.{joined, AppendsFront, PrintsAs}
 
@@ -16,6 +17,7 @@ module _ {A : Type 0} (program : Program A) (content : List ℕ → Option (List
   pub record Runs (read_before read_now : List ℕ → ℕ) (named : Option (List InputFile)) (old new : Option (List ℕ)) (before now code : ℕ) : Type 0 where
     pub verdict : Result A Stop
     pub caused : Causes program content read_before read_now named verdict
+    pub counts : KeepsCounts read_before read_now verdict
     pub printed : PrintsAs old new before now (joined (lines_of program verdict)) (status_of program verdict) code
 
   -- the words are right, the files are read, their contents come to this, and it is printed
@@ -24,12 +26,6 @@ module _ {A : Type 0} (program : Program A) (content : List ℕ → Option (List
     pub right : named ≡ Some files
     pub reads : Reads program content files verdict
     pub printed : Appends old new (joined (lines_of program verdict))
-
-  -- some answer with this status comes; a program says by its own clauses which it is
-  pub record Answered (named : Option (List InputFile)) (old new : Option (List ℕ)) (status : ℕ) : Type 0 where
-    pub answer : A
-    pub status_is : program.status answer ≡ status
-    pub comes : Comes named old new (Ok answer)
 
   -- that a file is too long is printed
   pub record SaysLong (named : Option (List InputFile)) (old new : Option (List ℕ)) : Type 0 where
@@ -87,4 +83,4 @@ module _ {A : Type 0} (program : Program A) (content : List ℕ → Option (List
 -- a verdict is printed with its status, or the sink's count rose, or memory ran out
 abbrev pub Ends : {A : Type 0} → Program A → Result A Stop → Option (List ℕ) → Option (List ℕ) → ℕ → ℕ → ℕ → Type 0
 Ends program verdict old new before now code =
-    ((code ≡ status_of program verdict) × Appends old new (joined (lines_of program verdict))) ⊎ (((code ≡ 6) × Rose before now) ⊎ (code ≡ 7))
+    ((code ≡ status_of program verdict) × Appends old new (joined (lines_of program verdict))) ⊎ (((code ≡ 6) × Rose before now) ⊎ ((code ≡ 7) × (now ≡ before)))

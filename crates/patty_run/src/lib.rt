@@ -14,8 +14,8 @@ mod texts;
 mod words;
 
 pub use input::{Input, NamedInput};
-pub use printing::{finish, put_all, put_bytes, put_stop, status_of_stop};
+pub use printing::{exit_of, finish, put_all, put_bytes, put_stop, status_of_stop};
 pub use stop::Stop;
 pub use taking::take_inputs;
 pub use texts::read_task;
-pub use words::{STATUS_OF_MEMORY, words_of};
+pub use words::words_of;

@@ -1,5 +1,6 @@
 //! What is printed: the lines of a verdict, one after another, until a write fails.
 ghost use Rattle.std.specs.Prelude.{◌≡◌, map, IfOk, string_bytes};
+ghost use Rattle.std.specs.Process.{exit_status};
 ghost use Rattle.patty_run.specs.Printed as printed;
 ghost use Rattle.patty_run.specs.Printed.{joined, PutsAll};
 
@@ -8,6 +9,7 @@ use crate::input::word;
 use patty_io::{Sink, SinkFail, Status};
 use sexpr::{Source, TextFault};
 use std::alloc::{AllocError, Global};
+use std::process::ExitCode;
 
 /// Writes pieces one behind another.
 pub fn put_all<O: Sink>(out: &mut O, pieces: &[&str]) -> Result<(), SinkFail>
@@ -121,4 +123,11 @@ pub fn finish(written: Result<(), SinkFail>, status: u8) -> Status
         Err(SinkFail::Memory) => 7,
     };
     Status { code }
+}
+
+/// The end of the process with a status.
+pub fn exit_of(status: Status) -> ExitCode
+    ensures { exit_status result ≡ status.code }
+{
+    ExitCode::from(status.code)
 }

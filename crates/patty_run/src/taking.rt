@@ -1,6 +1,7 @@
 //! Taking the files of a program in order, up to the first that can't be taken.
 ghost use Rattle.std.specs.Prelude.{◌≡◌, ◌≤◌, ℕ, List, map};
 ghost use Rattle.patty_run.specs.Inputs.{file_of};
+ghost use Rattle.patty_run.specs.Counts.{KeepsCounts};
 ghost use Rattle.patty_run.specs.Taken.{IsTaken, AreTaken};
 
 use crate::{Input, NamedInput, Stop};
@@ -15,6 +16,7 @@ fn take_input<F: Shelf>(
     input: Input,
 ) -> Result<Vec<u8>, Stop>
     ensures taken { IsTaken (F.content files.old name.now) (F.faults files.old name.now) (F.faults files.new name.now) input result }
+    ensures counts { KeepsCounts (F.faults files.old) (F.faults files.new) result }
     ensures later { (of : List ℕ) → F.faults files.old of ≤ F.faults files.new of }
     ensures content { (of : List ℕ) → F.content files.new of ≡ F.content files.old of }
 {
@@ -33,7 +35,8 @@ pub fn take_inputs<F: Shelf>(
     files: &mut F,
     inputs: &[NamedInput<'_>],
 ) -> Result<Vec<Vec<u8>>, Stop>
-    ensures { AreTaken (F.content files.old) (F.faults files.old) (F.faults files.new) (map file_of inputs.now) result }
+    ensures taken { AreTaken (F.content files.old) (F.faults files.old) (F.faults files.new) (map file_of inputs.now) result }
+    ensures counts { KeepsCounts (F.faults files.old) (F.faults files.new) result }
 {
     let mut all = Vec::new(alloc);
     for named in inputs {

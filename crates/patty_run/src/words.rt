@@ -2,9 +2,6 @@
 use std::rt::Env;
 use std::{env, io};
 
-/// The status of a run that ends for want of memory.
-pub const STATUS_OF_MEMORY: u8 = 7;
-
 /// The words behind the program's name.
 pub fn words_of<R: Env + AllocGlobal>(rt: &R) -> io::Result<Vec<String>> {
     let mut words = Vec::new(rt.alloc());

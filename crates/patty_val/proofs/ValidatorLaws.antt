@@ -19,8 +19,8 @@ use Rattle.patty_run.specs.Inputs.{InputFile}
 use Rattle.patty_run.specs.Files.{AreHeld}
 use Rattle.patty_run.specs.Printed.{joined}
 use Rattle.patty_run.specs.Runs.{Decides}
-use Rattle.patty_run.specs.Statuses.{Comes, Answered, IsRefused}
-use Rattle.patty_run.proofs.StatusLaws.{IsLawful}
+use Rattle.patty_run.specs.Statuses.{Comes, IsRefused}
+use Rattle.patty_run.proofs.StatusLaws.{IsLawful, Answered}
 use Rattle.patty_val.specs.declared.answer.Answer.{Answer}
 use Rattle.patty_val.specs.declared.answer.Answer.TheVariants as answer
 use Rattle.patty_val.specs.Lines.{lines, failure_status, outcome_status, status}
@@ -160,6 +160,7 @@ module _ (content : List ℕ → Option (List ℕ)) (named : Option (List InputF
       spelled = decides.is.spelled;
       verdict = o;
       is_verdict = decides.is.outcome_is;
+      comes = decides.is.comes;
       is_so = so decides.task decides.is.plan o is decides.is.means;
       printed = subst (λ (n : ℕ). Appends old new (joined (lines (answer.Judged o n)))) decides.is.steps_is printed;
     }

@@ -1,4 +1,4 @@
--- The line of an answer.
+-- The line of an answer, and its status.
 use Rattle.std.specs.Prelude.{ℕ, List, [], ◌∷◌, ◌++◌, codes}
 use Rattle.std.specs.Fmt.{decimal}
 use Rattle.frac128.specs.Text.{text_of}

@@ -9,6 +9,7 @@ use Rattle.plan_text.specs.Printed.{flat_length}
 use Rattle.plan_judge.specs.declared.outcome.Outcome.{Outcome}
 use Rattle.plan_judge.specs.declared.outcome.Outcome.TheVariants as outcome
 use Rattle.plan_judge.specs.Outcome.{outcome_of}
+use Rattle.plan_judge.specs.Course.{ComesTo}
 use Rattle.plan_judge.specs.Written.{IsValid}
 use Rattle.plan_judge.specs.Laws.{SaysInvalid, IsPast, Means}
 use Rattle.patty_run.specs.Inputs.{InputFile}
@@ -26,6 +27,8 @@ pub record IsJudged (task : TaskParts) (text : List ℕ) (o : Outcome) (steps : 
   pub plan : List Part
   pub spelled : plan_judged (names_of task) text ≡ good plan
   pub outcome_is : o ≡ outcome_of task plan
+  -- how far the plan comes: the run in front of its first failure, or of all its parts
+  pub comes : ComesTo task plan o
   -- what the outcome says of the plan written out, in unlimited fractions: it is valid, or it isn't
   pub means : Means task plan o
   pub steps_is : steps ≡ flat_length plan
@@ -76,6 +79,7 @@ module _ (content : List ℕ → Option (List ℕ)) (named : Option (List InputF
     pub spelled : plan_judged (names_of task) text ≡ good plan
     pub verdict : Outcome
     pub is_verdict : verdict ≡ outcome_of task plan
+    pub comes : ComesTo task plan verdict
     pub is_so : IsSo task plan verdict
     pub printed : Appends old new (joined (lines (answer.Judged verdict (flat_length plan))))
 

@@ -2,7 +2,7 @@
 use Rattle.std.proofs.Common.{◌≡◌, ℕ, List, [], ◌∷◌, Some, false, refl, sym, ◌∙◌, ap, subst}
 use Rattle.std.specs.Prelude.{codes, bytes_eq, slice_get}
 use Rattle.kw_table.specs.Table.{IsAbsent}
-use Rattle.pddl_form.specs.Condition.{is_one_of}
+use Rattle.pddl_form.specs.Names.{is_one_of}
 use Rattle.pddl_form.proofs.Keywords.{other_word, isnt, none_of}
 use Rattle.pddl_domain.specs.declared.action.Key.TheVariants.{Parameters, Precondition, Effect, Unknown}
 use Rattle.pddl_domain.specs.declared.effect.EffectHead.TheVariants.{And, Not, Change, Unread}

@@ -11,7 +11,7 @@ use Rattle.pddl_form.specs.Judged.{Judged, good, misshapen, lacking, closing, ma
 use Rattle.pddl_form.specs.Put.{put_all}
 use Rattle.pddl_form.specs.Words.{word_of, word_form}
 use Rattle.pddl_form.specs.Typed.{typed_list}
-use Rattle.pddl_form.specs.Condition.{condition_form}
+use Rattle.pddl_condition.specs.Condition.{condition_form}
 use Rattle.pddl_domain.specs.declared.action.ActionAst.{ActionAst}
 use Rattle.pddl_domain.specs.declared.action.Key.{Key}
 use Rattle.pddl_domain.specs.declared.action.Key.TheVariants as key

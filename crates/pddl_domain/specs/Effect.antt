@@ -4,15 +4,16 @@ use Rattle.sexpr.specs.declared.tree.Tree.{Tree}
 use Rattle.pddl_form.specs.Gather.{joined}
 use Rattle.pddl_form.specs.declared.calls.Call.{Call}
 use Rattle.pddl_form.specs.declared.names.Sort.TheVariants.{Term}
-use Rattle.pddl_form.specs.declared.expression.ExprAst.{ExprAst}
+use Rattle.pddl_condition.specs.declared.expression.ExprAst.{ExprAst}
 use Rattle.pddl_form.specs.Judged.{Judged, good, misshapen, mapped, each}
 use Rattle.pddl_form.specs.Names.{is_symbol}
 use Rattle.pddl_form.specs.Words.{word_of, spot_of}
 use Rattle.pddl_form.specs.Calls.{arguments, call_form}
 use Rattle.pddl_form.specs.Typed.{only}
 use Rattle.pddl_form.specs.Parts.{two_parts}
-use Rattle.pddl_form.specs.Expression.{expression_form}
-use Rattle.pddl_form.specs.Condition.{is_one_of, not_read, undone, negation}
+use Rattle.pddl_condition.specs.Expression.{expression_form}
+use Rattle.pddl_form.specs.Names.{is_one_of}
+use Rattle.pddl_condition.specs.Condition.{not_read, undone, negation}
 use Rattle.pddl_form.specs.Recursion.{tree_rec}
 use Rattle.pddl_domain.specs.declared.effect.EffAst.{EffAst}
 use Rattle.pddl_domain.specs.declared.effect.EffAst.TheVariants as eff

@@ -11,10 +11,8 @@ ghost use Rattle.pddl_domain.specs.Action as spec;
 
 use crate::effect::{EffAst, read_effect};
 use kw_table::{Table, rows};
-use pddl_form::{
-    CondAst, FirstFault, Sort, Spot, Typed, parted, read_condition, read_typed_list, read_word,
-    word,
-};
+use pddl_condition::{CondAst, read_condition};
+use pddl_form::{FirstFault, Sort, Spot, Typed, parted, read_typed_list, read_word, word};
 use sexpr::Tree;
 use sqlite_items::Items;
 use std::alloc::{AllocError, Global};

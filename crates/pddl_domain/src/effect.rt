@@ -6,17 +6,18 @@ ghost use Rattle.pddl_form.specs.Gather.{joined};
 ghost use Rattle.pddl_form.specs.Judged.{each, mapped};
 ghost use Rattle.pddl_form.specs.Reading.{Reads};
 ghost use Rattle.pddl_form.specs.Calls.{arguments, call_form};
-ghost use Rattle.pddl_form.specs.Condition.{negation, undone};
-ghost use Rattle.pddl_form.specs.Expression.{expression_form};
+ghost use Rattle.pddl_condition.specs.Condition.{negation, undone};
+ghost use Rattle.pddl_condition.specs.Expression.{expression_form};
 ghost use Rattle.pddl_form.specs.Parts.{two_parts};
 ghost use Rattle.pddl_form.specs.Typed.{only};
 ghost use Rattle.pddl_form.specs.declared.names.Sort.TheVariants.{Term};
 ghost use Rattle.pddl_domain.specs.Effect as effect;
 
 use kw_table::{Table, rows};
+use pddl_condition::{ExprAst, note_unread, read_expression, read_undone};
 use pddl_form::{
-    Call, ExprAst, FirstFault, Sort, Spot, add_all, is_symbol, make_spot, note_unread, pair,
-    parted, provided, read_arguments, read_call, read_expression, read_undone, word,
+    Call, FirstFault, Sort, Spot, add_all, is_symbol, make_spot, pair, parted, provided,
+    read_arguments, read_call, word,
 };
 use sexpr::Tree;
 use sqlite_items::Items;

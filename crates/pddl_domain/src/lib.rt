@@ -14,7 +14,5 @@ pub use action::{ActionAst, action_keys_rise};
 pub use domain::{DomainAst, one_domain, read_domain};
 pub use effect::{EffAst, effect_heads_rise};
 pub use head::{Head, number_rises};
-pub use pddl_form::{CondAst, ExprAst, Spot, Typed};
-
-#[cfg(test)]
-mod tests;
+pub use pddl_condition::{CondAst, ExprAst};
+pub use pddl_form::{Spot, Typed};

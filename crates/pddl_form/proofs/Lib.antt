@@ -3,11 +3,7 @@ pub mod Judging
 pub mod Loops
 pub mod PartsLaws
 pub mod Depth
-pub mod Expressions
-pub mod Conditions
 pub mod TypedLists
-pub mod ConditionLaws
-pub mod UnreadNot
 pub mod Concluding
 pub mod SectionLaws
 pub mod FirstFaults

@@ -17,7 +17,7 @@ use Rattle.pddl_form.specs.Faults.{first_with, shape}
 use Rattle.pddl_form.specs.Reading.{IsRead, Reads}
 use Rattle.pddl_form.specs.Gather.{push}
 use Rattle.pddl_form.specs.Words.{is_word}
-use Rattle.pddl_form.specs.Condition.{is_one_of}
+use Rattle.pddl_form.specs.Names.{is_one_of}
 use Rattle.pddl_form.specs.Sections.{Tested, kind_of, section_by, section_head, Contents, contents_at, contents_behind, or_next, section_with, section_words}
 use Rattle.pddl_form.specs.inside.Seen.{first_word, first_word_at, HasSeen}
 use Rattle.pddl_form.proofs.Loops.{read_bad}

@@ -8,8 +8,6 @@ pub mod Words
 pub mod Calls
 pub mod Parts
 pub mod Typed
-pub mod Expression
-pub mod Condition
 pub mod Put
 pub mod Concluded
 pub mod Sections

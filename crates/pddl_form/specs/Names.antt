@@ -29,12 +29,16 @@ takes Variable text = is_variable text
 takes Term text = is_name text || is_variable text
 takes Keyword text = is_keyword text
 
+-- a word is one of these
+abbrev pub is_one_of : List (List ℕ) → List ℕ → Bool
+is_one_of words text = list_any (λ w. bytes_eq w text) words
+
 -- the words with a meaning of their own in a condition or an effect, in byte order
 abbrev pub reserved : List (List ℕ)
 reserved = codes "and" ∷ codes "assign" ∷ codes "decrease" ∷ codes "exists" ∷ codes "forall" ∷ codes "imply" ∷ codes "increase" ∷ codes "not" ∷ codes "or" ∷ codes "preference" ∷ codes "scale-down" ∷ codes "scale-up" ∷ codes "when" ∷ []
 
 unfoldable pub is_reserved : List ℕ → Bool
-is_reserved text = list_any (λ w. bytes_eq w text) reserved
+is_reserved text = is_one_of reserved text
 
 -- a name that a predicate or a function may have
 abbrev pub is_symbol : List ℕ → Bool

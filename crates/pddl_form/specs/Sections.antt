@@ -17,7 +17,7 @@ use Rattle.pddl_form.specs.Judged.{Judged, good, bad, misshapen, lacking, unread
 use Rattle.pddl_form.specs.Gather.{push}
 use Rattle.pddl_form.specs.Words.{word_form, word_forms, is_word}
 use Rattle.pddl_form.specs.Parts.{one_part}
-use Rattle.pddl_form.specs.Condition.{is_one_of}
+use Rattle.pddl_form.specs.Names.{is_one_of}
 
 -- a form that makes nothing of a tree: a test alone
 abbrev pub Tested : Type 0

@@ -8,7 +8,8 @@ use sexpr::{Source, Text, TextFault, TextRefusal};
 use std::alloc::{AllocError, Global};
 use std::marker::Model;
 
-/// A fault, of kind 4 (the shape of a tree), 5 (a feature that isn't read, with its word) or 10 (no number).
+/// A fault of a text by its kind: 4 (the shape of a tree), 5 (a feature that isn't read, with its word) and 10 (no number)
+/// are those of the shape; the passes behind note theirs in the same form.
 #[derive(Debug, Drop)]
 pub struct Fault {
     pub kind: u8,

@@ -1,13 +1,11 @@
-//! What the texts of a domain and of a problem are made of: names, typed lists, expressions and conditions, each read
-//! from a tree with exact faults.
+//! What the texts of a domain and of a problem are made of: words, typed lists and sections, each read from a tree with
+//! exact faults. Expressions and conditions stand above, in `pddl_condition`.
 //!
 //! A reader goes on behind a fault, over each part that has a place in the form there: it answers the syntax, or none,
 //! and keeps in a `FirstFault` the fault that counts. Begin with `FirstFault`, then `read_word`, the smallest reader.
 #![tactic(auto)]
 
 mod calls;
-mod condition;
-mod expression;
 mod fault;
 mod gather;
 mod laws;
@@ -17,11 +15,9 @@ mod spot;
 mod typed;
 
 pub use calls::{Call, read_arguments, read_call};
-pub use condition::{CondAst, condition_heads_rise, note_unread, read_condition, read_undone};
-pub use expression::{ExprAst, operators_rise, read_expression, read_number};
 pub use fault::{Fault, FirstFault, conclude};
 pub use gather::{add, add_all, pair, parted, provided};
-pub use laws::{first_fault_is_least, one_condition, one_expression, unread_not_is_one_fault};
+pub use laws::first_fault_is_least;
 pub use names::{Sort, is_symbol, reserved_words_rise, takes};
 pub use sections::{
     Definition, Section, SectionWord, define_rises, find_section, open_definition, read_only_name,
@@ -30,6 +26,3 @@ pub use sections::{
 };
 pub use spot::{Spot, make_spot, read_word, read_words, word};
 pub use typed::{Typed, is_dash, read_typed_list, type_words_rise};
-
-#[cfg(test)]
-mod tests;

@@ -215,7 +215,7 @@ impl Seen {
     ghost use Rattle.std.specs.Option.{is_some};
     ghost use Rattle.sexpr.specs.declared.tree.Tree.{Tree};
     ghost use Rattle.pddl_form.specs.Gather.{push};
-    ghost use Rattle.pddl_form.specs.Condition.{is_one_of};
+    ghost use Rattle.pddl_form.specs.Names.{is_one_of};
     ghost use Rattle.pddl_form.specs.Sections.{section_with, section_words};
     ghost use Rattle.pddl_form.specs.inside.Seen.{HasSeen};
 

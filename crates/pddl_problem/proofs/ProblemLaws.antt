@@ -1,6 +1,6 @@
 -- A problem is read where its parts are.
 use Rattle.std.proofs.Common.{List, Option}
-use Rattle.pddl_form.specs.declared.condition.CondAst.{CondAst}
+use Rattle.pddl_condition.specs.declared.condition.CondAst.{CondAst}
 use Rattle.pddl_form.specs.declared.fault.Fault.{Fault}
 use Rattle.pddl_form.specs.declared.spot.Spot.{Spot}
 use Rattle.pddl_form.specs.declared.typed.Typed.{Typed}

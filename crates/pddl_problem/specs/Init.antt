@@ -11,8 +11,8 @@ use Rattle.pddl_form.specs.Names.{is_symbol}
 use Rattle.pddl_form.specs.Words.{word_of}
 use Rattle.pddl_form.specs.Calls.{arguments, call_form}
 use Rattle.pddl_form.specs.Parts.{two_parts}
-use Rattle.pddl_form.specs.Expression.{number_form}
-use Rattle.pddl_form.specs.Condition.{undone, negation, not_read}
+use Rattle.pddl_condition.specs.Expression.{number_form}
+use Rattle.pddl_condition.specs.Condition.{undone, negation, not_read}
 use Rattle.pddl_problem.specs.declared.ast.InitAst.{InitAst}
 use Rattle.pddl_problem.specs.declared.ast.InitAst.TheVariants as item
 use Rattle.pddl_problem.specs.declared.init.Head.{Head}

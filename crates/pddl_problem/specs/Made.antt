@@ -1,7 +1,7 @@
 -- The parts of a problem, where all are there.
 use Rattle.std.specs.Prelude.{List, Option}
 use Rattle.std.specs.Option.{option_map}
-use Rattle.pddl_form.specs.declared.condition.CondAst.{CondAst}
+use Rattle.pddl_condition.specs.declared.condition.CondAst.{CondAst}
 use Rattle.pddl_form.specs.declared.spot.Spot.{Spot}
 use Rattle.pddl_form.specs.declared.typed.Typed.{Typed}
 use Rattle.pddl_form.specs.Gather.{apply, option_both}

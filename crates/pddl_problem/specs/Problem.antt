@@ -2,7 +2,7 @@
 use Rattle.std.specs.Prelude.{ℕ, List, [], map, codes}
 use Rattle.sexpr.specs.declared.tree.Tree.{Tree}
 use Rattle.sexpr.specs.declared.fault.Source.TheVariants.{Problem}
-use Rattle.pddl_form.specs.declared.condition.CondAst.{CondAst}
+use Rattle.pddl_condition.specs.declared.condition.CondAst.{CondAst}
 use Rattle.pddl_form.specs.declared.names.Sort.TheVariants.{Name}
 use Rattle.pddl_form.specs.declared.spot.Spot.{Spot}
 use Rattle.pddl_form.specs.declared.typed.Typed.{Typed}
@@ -11,7 +11,7 @@ use Rattle.pddl_form.specs.Judged.{Judged, good, lacking, mapped, both, each}
 use Rattle.pddl_form.specs.Words.{word_form}
 use Rattle.pddl_form.specs.Parts.{one_part}
 use Rattle.pddl_form.specs.Typed.{typed_list}
-use Rattle.pddl_form.specs.Condition.{condition_form}
+use Rattle.pddl_condition.specs.Condition.{condition_form}
 use Rattle.pddl_form.specs.Sections.{Contents, Definition, section_with, contents_or, second, sections_form, requirements_form, title_form, definition_form, and_then}
 use Rattle.pddl_problem.specs.declared.ast.InitAst.{InitAst}
 use Rattle.pddl_problem.specs.declared.ast.ProblemAst.{ProblemAst}

@@ -1,6 +1,7 @@
 //! The syntax of a problem, with places.
 use frac128::Frac;
-use pddl_form::{CondAst, Spot, Typed};
+use pddl_condition::CondAst;
+use pddl_form::{Spot, Typed};
 use sqlite_items::Items;
 
 /// An item of the initial state, with the place of its first byte.

@@ -13,9 +13,9 @@ ghost use Rattle.pddl_problem.specs.Init as init_spec;
 use crate::ast::InitAst;
 use frac128::Frac;
 use kw_table::{Table, rows};
+use pddl_condition::{note_unread, read_number, read_undone};
 use pddl_form::{
-    Call, FirstFault, Sort, add, is_symbol, note_unread, pair, parted, provided, read_arguments,
-    read_call, read_number, read_undone, word,
+    Call, FirstFault, Sort, add, is_symbol, pair, parted, provided, read_arguments, read_call, word,
 };
 use sexpr::Tree;
 use sqlite_items::Items;

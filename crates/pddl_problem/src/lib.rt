@@ -8,10 +8,6 @@ mod ast;
 mod init;
 mod laws;
 mod problem;
-#[cfg(test)]
-mod tests;
-#[cfg(test)]
-mod texts;
 
 pub use ast::{InitAst, ProblemAst};
 pub use init::init_heads_rise;

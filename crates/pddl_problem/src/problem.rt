@@ -3,7 +3,7 @@ ghost use Rattle.std.specs.Prelude.{◌≡◌};
 ghost use Rattle.sexpr.specs.declared.fault.Source.TheVariants.{Problem};
 ghost use Rattle.pddl_form.specs.Reading.{Reads};
 ghost use Rattle.pddl_form.specs.Parts.{one_part};
-ghost use Rattle.pddl_form.specs.Condition.{condition_form};
+ghost use Rattle.pddl_condition.specs.Condition.{condition_form};
 ghost use Rattle.pddl_form.specs.SectionParts.{parts_of};
 ghost use Rattle.pddl_form.specs.Concluded.{Answers};
 ghost use Rattle.pddl_problem.specs.Problem as problem;
@@ -11,10 +11,11 @@ ghost use Rattle.pddl_problem.specs.Made as made_spec;
 
 use crate::ast::{InitAst, ProblemAst};
 use crate::init::read_inits;
+use pddl_condition::{CondAst, read_condition};
 use pddl_form::{
-    CondAst, Definition, FirstFault, SectionWord, Sort, Spot, Typed, conclude, find_section,
-    open_definition, parted, provided, read_condition, read_only_name, read_requirements,
-    read_section_words, read_title, read_typed_list,
+    Definition, FirstFault, SectionWord, Sort, Spot, Typed, conclude, find_section,
+    open_definition, parted, provided, read_only_name, read_requirements, read_section_words,
+    read_title, read_typed_list,
 };
 use sexpr::{Source, TextRefusal, Tree};
 use sqlite_items::Items;

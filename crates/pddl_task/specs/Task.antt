@@ -23,7 +23,7 @@ abbrev pub changes_func : ℕ → Effect → Bool
 changes_func f (effect.Put pos pred args) = false
 changes_func f (effect.Change op func args by) = func == f
 
--- an effect of some action names it; else it is static
+-- it is the target of an effect of some action; else it is static
 abbrev pub is_changing_pred : List Action → ℕ → Bool
 is_changing_pred actions p = list_any (λ a. list_any (changes_pred p) a.effs) actions
 

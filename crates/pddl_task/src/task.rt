@@ -83,7 +83,7 @@ fn mark_funcs(flags: &mut [bool], effs: &[Effect])
     }
 }
 
-/// For each predicate, whether an effect of some action names it.
+/// For each predicate, whether it is the target of an effect of some action.
 fn changing_preds(
     alloc: Global,
     count: usize,

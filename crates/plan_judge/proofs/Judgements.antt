@@ -68,7 +68,7 @@ module _ (task : TaskParts) where
   goal_valid (Ok false) is = cc
   goal_valid (Err w) is = cc
 
-  end_valid : (r : Result PlanState PartFail) → end_outcome task r ≡ outcome.Valid → (s : PlanState) × (r ≡ Ok s) × (goal_met s task.goal ≡ Ok true)
+  pub end_valid : (r : Result PlanState PartFail) → end_outcome task r ≡ outcome.Valid → (s : PlanState) × (r ≡ Ok s) × (goal_met s task.goal ≡ Ok true)
   end_valid (Ok s) is = (s, refl, goal_valid (goal_met s task.goal) is)
   end_valid (Err e) is = cc
 
@@ -92,7 +92,7 @@ module _ (task : TaskParts) where
   goal_fails (Ok false) e is = cc
   goal_fails (Err w) e is = cc
 
-  end_fails : (r : Result PlanState PartFail) (e : PartFail) → end_outcome task r ≡ outcome.PartFails e → r ≡ Err e
+  pub end_fails : (r : Result PlanState PartFail) (e : PartFail) → end_outcome task r ≡ outcome.PartFails e → r ≡ Err e
   end_fails (Ok s) e is = absurd (goal_fails (goal_met s task.goal) e is)
   end_fails (Err f) e is = let same : f ≡ e = cc in ap (λ (g : PartFail). Err g) same
 
@@ -142,8 +142,8 @@ module _ (task : TaskParts) where
   goal_past (Ok false) w is = cc
   goal_past (Err v) w is = let same : v ≡ w = cc in ap (λ (u : Wide). Err u) same
 
-  end_past : (r : Result PlanState PartFail) (w : Wide) → end_outcome task r ≡ outcome.GoalWide w → (s : PlanState) × (goal_met s task.goal ≡ Err w)
-  end_past (Ok s) w is = (s, goal_past (goal_met s task.goal) w is)
+  pub end_past : (r : Result PlanState PartFail) (w : Wide) → end_outcome task r ≡ outcome.GoalWide w → (s : PlanState) × (r ≡ Ok s) × (goal_met s task.goal ≡ Err w)
+  end_past (Ok s) w is = (s, refl, goal_past (goal_met s task.goal) w is)
   end_past (Err e) w is = cc
 
   invalid_as : (plan : List Part) (o : Outcome) → outcome_of task plan ≡ o → SaysInvalid o → IsValid task plan → ⊥
@@ -156,7 +156,7 @@ module _ (task : TaskParts) where
       let fails : made_from task 1 plan (initial task) ≡ Err e = end_fails (made_from task 1 plan (initial task)) e (sym is) in
       fail_means plan e.fail.fail (parts_tell plan 1 (initial task) e fails) (λ refuted. invalid_as plan (outcome.PartFails e) (sym is) refuted)
   means plan outcome.GoalFails is = invalid_as plan outcome.GoalFails (sym is) tt
-  means plan (outcome.GoalWide w) is = let s = end_past (made_from task 1 plan (initial task)) w (sym is) in wide_goal s.0 task.goal w s.1
+  means plan (outcome.GoalWide w) is = let s = end_past (made_from task 1 plan (initial task)) w (sym is) in wide_goal s.0 task.goal w s.2
 
   -- whatever is answered
   pub answer_means : {E : Type 0} (plan : List Part) (r : Result Outcome E) → IfOk r (λ o. o ≡ outcome_of task plan) → IfOk r (Means task plan)

@@ -1,3 +1,3 @@
 pub mod Parts
 pub mod Judgements
-pub mod SampleNumbers
+pub mod Reaching

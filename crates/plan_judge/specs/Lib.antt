@@ -1,4 +1,4 @@
 pub mod Outcome
 pub mod Written
+pub mod Course
 pub mod Laws
-pub mod SampleCounts

@@ -1,6 +1,7 @@
 //! The parts of a plan, one after another, and the goal behind them.
 ghost use Rattle.std.specs.Prelude.{◌≡◌, IfOk};
 ghost use Rattle.plan_judge.specs.Outcome.{outcome_of};
+ghost use Rattle.plan_judge.specs.Course.{ComesTo};
 ghost use Rattle.plan_judge.specs.Laws.{Means};
 
 use crate::outcome::{Outcome, PartFail};
@@ -35,6 +36,7 @@ fn find_outcome(alloc: Global, task: &Task, plan: &Plan) -> Result<Outcome, Allo
 /// Judges a plan. A part takes as many steps as it counts.
 pub fn judge_plan(alloc: Global, task: &Task, plan: &Plan) -> Result<Outcome, AllocError>
     ensures outcome { IfOk result (λ outcome. outcome ≡ outcome_of task.now plan.now) }
+    ensures comes { IfOk result (ComesTo task.now plan.now) }
     ensures means { IfOk result (Means task.now plan.now) }
 {
     find_outcome(alloc, task, plan)

@@ -9,8 +9,3 @@ mod outcome;
 
 pub use judging::judge_plan;
 pub use outcome::{Outcome, PartFail};
-
-#[cfg(test)]
-mod sample;
-#[cfg(test)]
-mod tests;

@@ -9,7 +9,7 @@ use Rattle.plan_step.specs.State.{PlanState}
 use Rattle.plan_step.specs.Met.{found, passes}
 use Rattle.plan_step.specs.Effects.{Change, puts, truth_behind, values_behind}
 use Rattle.plan_step.specs.Step.{with_values, state_behind}
-use Rattle.plan_step.specs.Touches.{target_of, change_of, changes_of, DiffersIn, is_atom}
+use Rattle.plan_step.specs.Touches.{target_of, change_in, changes_of, DiffersIn, is_atom}
 use Rattle.plan_step.specs.Application.{with_truths}
 use Rattle.plan_step.proofs.Booleans.{neither_true}
 use Rattle.plan_step.proofs.Truths.{one_state, state_with}
@@ -34,7 +34,7 @@ pub behind_fails : (changes : List Change) (old : PlanState) (w : Wide) → valu
 behind_fails changes old w values = ap (with_values changes old) values
 
 -- ---- an atom that isn't touched
-not_put : (b : Bool) (p : ℕ) (args : List ℕ) (t : Touch) → is_atom p args (target_of t) ≡ false → puts b p args (change_of t) ≡ false
+not_put : (b : Bool) (p : ℕ) (args : List ℕ) (t : Touch) → is_atom p args (target_of t) ≡ false → puts b p args (change_in t) ≡ false
 not_put true p args (touch.Atom true q others old) h = h
 not_put true p args (touch.Atom false q others old) h = refl
 not_put false p args (touch.Atom true q others old) h = refl

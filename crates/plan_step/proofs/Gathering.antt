@@ -9,7 +9,7 @@ use Rattle.plan_step.specs.declared.touches.Touch.{Touch}
 use Rattle.plan_step.specs.State.{PlanState}
 use Rattle.plan_step.specs.Met.{Met, found, lacks, passes}
 use Rattle.plan_step.specs.Effects.{Change, change_met, all_changes, more_changes}
-use Rattle.plan_step.specs.Touches.{leaf_answer, change_of, changes_of, target_of, target_in, EachTouch, IsKept, IsUsable, HasTarget, IsTouch, AreTouches}
+use Rattle.plan_step.specs.Touches.{leaf_answer, change_in, changes_of, target_of, target_in, EachTouch, IsKept, IsUsable, HasTarget, IsTouch, AreTouches}
 
 -- changes in front of what comes of the rest
 abbrev pub with_front : List Change → Result (List Change) StepFail → Result (List Change) StepFail
@@ -59,15 +59,15 @@ module _ (state : PlanState) (args : List ℕ) (effs : List Effect) where
       one_more c (Ok more) = ap Ok (sym (append_assoc (changes_of touches) (c ∷ []) more))
       one_more c (Err e) = refl
 
-      goes_on : (m : Met Change) (t : Touch) → leaf_answer i m ≡ Ok (change_of t) → behind m ≡ with_front (changes_of (touches ++ t ∷ [])) (all_changes (i + 1) (ms (drop (i + 1) effs)))
+      goes_on : (m : Met Change) (t : Touch) → leaf_answer i m ≡ Ok (change_in t) → behind m ≡ with_front (changes_of (touches ++ t ∷ [])) (all_changes (i + 1) (ms (drop (i + 1) effs)))
       unfolding rest
       goes_on (found c) t is =
-          let same : c ≡ change_of t = cc in
-          one_more c rest ∙ ap (λ d. with_front (changes_of touches ++ d ∷ []) rest) same ∙ ap (λ cs. with_front cs rest) (sym (map_push change_of touches t))
+          let same : c ≡ change_in t = cc in
+          one_more c rest ∙ ap (λ d. with_front (changes_of touches ++ d ∷ []) rest) same ∙ ap (λ cs. with_front cs rest) (sym (map_push change_in touches t))
       goes_on lacks t is = cc
       goes_on (passes w) t is = cc
 
-      pub gathered_more : (t : Touch) → leaf_answer i (change_met state args effect) ≡ Ok (change_of t) → IsGathered (i + 1) (touches ++ t ∷ [])
+      pub gathered_more : (t : Touch) → leaf_answer i (change_met state args effect) ≡ Ok (change_in t) → IsGathered (i + 1) (touches ++ t ∷ [])
       gathered_more t is = here ∙ goes_on (change_met state args effect) t is
 
   pub touches_more : (i : ℕ) (touches : List Touch) (effect : Effect) (t : Touch) → i < length effs → effect ≡ get_or effs i effect

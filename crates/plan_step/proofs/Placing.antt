@@ -4,14 +4,14 @@ use Rattle.std.proofs.lemmas.List.{map_more}
 use Rattle.plan_step.specs.declared.touches.Touch.{Touch}
 use Rattle.plan_step.specs.declared.touches.Touch.TheVariants as touch
 use Rattle.plan_step.specs.Held.{Held, KeepsPlaces}
-use Rattle.plan_step.specs.Touches.{EachTouch, HasPlace, change_of, changes_of}
+use Rattle.plan_step.specs.Touches.{EachTouch, HasPlace, change_in, changes_of}
 
 -- a fact of each of the first touches
 abbrev pub EachBelow : (Touch → Type 0) → List Touch → ℕ → Type 0
 EachBelow P touches n = (i : ℕ) (t : Touch) → i < n → t ≡ get_or touches i t → P t
 
-pub changes_more : (touches : List Touch) (i : ℕ) (t : Touch) → i < length touches → t ≡ get_or touches i t → changes_of (take (i + 1) touches) ≡ changes_of (take i touches) ++ change_of t ∷ []
-changes_more touches i t within is = map_more change_of touches i t within ∙ ap (λ (u : Touch). changes_of (take i touches) ++ change_of u ∷ []) (sym is)
+pub changes_more : (touches : List Touch) (i : ℕ) (t : Touch) → i < length touches → t ≡ get_or touches i t → changes_of (take (i + 1) touches) ≡ changes_of (take i touches) ++ change_in t ∷ []
+changes_more touches i t within is = map_more change_in touches i t within ∙ ap (λ (u : Touch). changes_of (take i touches) ++ change_in u ∷ []) (sym is)
 
 pub place_kept : (old new : Held) → KeepsPlaces old new → (t : Touch) → HasPlace old t → HasPlace new t
 place_kept old new keeps (touch.Atom sign p args kept) h = keeps.atoms p args h

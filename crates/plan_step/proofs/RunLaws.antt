@@ -1,6 +1,6 @@
 -- Steps and runs end in one state; so a repetition that is made is a run, and one that fails, operations that pass 128 bits
 -- aside, is none.
-use Rattle.std.proofs.Common.{◌≡◌, ℕ, zero, suc, ◌+◌, List, [], ◌∷◌, ◌++◌, map, ◌⊎◌, inl, inr, replicate, Some, Result, Ok, Err, refl, sym, ap, subst, ◌∙◌, arith}
+use Rattle.std.proofs.Common.{◌≡◌, ℕ, zero, suc, ◌+◌, ◌<◌, List, [], ◌∷◌, ◌++◌, map, ◌⊎◌, inl, inr, replicate, Some, Result, Ok, Err, refl, sym, ap, subst, ◌∙◌, arith}
 use Rattle.pddl_task.specs.declared.action.Action.{Action}
 use Rattle.pddl_task.specs.declared.instance.Instance.{Instance}
 use Rattle.pddl_task.specs.declared.parts.TaskParts.{TaskParts}
@@ -83,4 +83,42 @@ module _ (task : TaskParts) (by : Instance) where
       elim (again_fails at (step_from task s by) (repeated_from task by (at + 1) n) f (sym (repeated_next task by at (suc n) n s (omega arith)) ∙ is)) [
         | inl e ↦ step_fails_wide task s b.0 by f.fail b.1 e
         | inr a ↦ failed_wide n (at + 1) a.0 u more f a.2 (let P : PlanState → Type 0 = λ v. Run task v (replicate n by ++ more) u in subst P (one_step task s b.0 a.0 by b.1 (step_has_step task s a.0 by a.1)) b.2)
+      ]
+
+  -- where a repetition fails: so many steps in front are made, and the next fails
+  pub record FailsBehind (n at : ℕ) (s : PlanState) (f : RepeatFail) : Type 0 where
+    pub made : ℕ
+    pub within : made < n
+    pub number : f.at ≡ at + made
+    pub reached : PlanState
+    pub run : Run task s (replicate made by) reached
+    pub fails : step_from task reached by ≡ Err f.fail
+
+  fails_at : (at : ℕ) (r : Result PlanState StepFail) (next : PlanState → Result PlanState RepeatFail) (f : RepeatFail) (e : StepFail) → r ≡ Err e → then_again at r next ≡ Err f → f.at ≡ at
+  fails_at at r next f e failed is =
+      let same : repeat_fail at e ≡ f = cc (ap (λ (q : Result PlanState StepFail). then_again at q next) failed) in ap (λ (g : RepeatFail). g.at) (sym same)
+
+  pub failed_behind : (n at : ℕ) (s : PlanState) (f : RepeatFail) → repeated_from task by at n s ≡ Err f → FailsBehind n at s f
+  failed_behind zero at s f is = let never : Ok s ≡ Err f = sym (repeated_none task by at zero s refl) ∙ is in cc
+  failed_behind (suc n) at s f is =
+      let first : then_again at (step_from task s by) (repeated_from task by (at + 1) n) ≡ Err f = sym (repeated_next task by at (suc n) n s (omega arith)) ∙ is in
+      elim (again_fails at (step_from task s by) (repeated_from task by (at + 1) n) f first) [
+        | inl e ↦ record {
+          made = 0;
+          within = omega arith;
+          number = let same : f.at ≡ at = fails_at at (step_from task s by) (repeated_from task by (at + 1) n) f f.fail e first in omega arith;
+          reached = s;
+          run = ended (record { truth = λ p args. refl; value = λ g args. refl });
+          fails = e;
+        }
+        | inr a ↦
+            let h = failed_behind n (at + 1) a.0 f a.2 in
+            record {
+              made = suc h.made;
+              within = let w : h.made < n = h.within in omega arith;
+              number = let k : f.at ≡ at + 1 + h.made = h.number in omega arith;
+              reached = h.reached;
+              run = stepped (step_has_step task s a.0 by a.1) h.run;
+              fails = h.fails;
+            }
       ]

@@ -11,7 +11,7 @@ use Rattle.pddl_task.specs.declared.start.Given.{Given}
 use Rattle.pddl_task.specs.declared.parts.TaskParts.{TaskParts}
 use Rattle.plan_step.specs.State.{PlanState, gives_truth, gives_value, initial}
 use Rattle.plan_step.specs.Held.{with_atom, with_function}
-use Rattle.plan_step.specs.Start.{with_facts, or_else, with_given, with_values}
+use Rattle.plan_step.specs.Start.{with_facts, or_else, with_given, with_given_values}
 use Rattle.plan_step.proofs.Booleans.{flipped}
 use Rattle.plan_step.proofs.Restoring.{chosen, one_call}
 use Rattle.plan_step.proofs.Truths.{one_state}
@@ -68,14 +68,14 @@ find_push : (test : Given → Bool) (values : List Given) (given : Given)
 find_push test [] given = first (test given) given
 find_push test (v ∷ values) given = later (test v) v (find test (values ++ given ∷ [])) (find test values) (cond (test given) (Some given.value) None) (find_push test values given)
 
-pub values_more : (values : List Given) (i : ℕ) (given : Given) (s : PlanState) → i < length values → given ≡ get_or values i given → with_given given (with_values (take i values) s) ≡ with_values (take (i + 1) values) s
+pub values_more : (values : List Given) (i : ℕ) (given : Given) (s : PlanState) → i < length values → given ≡ get_or values i given → with_given given (with_given_values (take i values) s) ≡ with_given_values (take (i + 1) values) s
 values_more values i given s within is = one_state _ _ (λ p xs. refl)
     (λ g xs. or_on (s.value g xs) (option_map (λ (v : Given). v.value) (find (gives_value g xs) (take i values))) (cond (gives_value g xs given) (Some given.value) None)
     ∙ ap (or_else (s.value g xs)) (sym (find_push (gives_value g xs) (take i values) given)
     ∙ ap (λ vs. option_map (λ (v : Given). v.value) (find (gives_value g xs) vs)) (ap (λ (v : Given). take i values ++ v ∷ []) is ∙ sym (take_more values i given within))))
 
 pub initial_is : (task : TaskParts) (facts : List Fact) (values : List Given) (empty : PlanState) → facts ≡ task.facts → values ≡ task.values
-    → ((p : ℕ) (args : List ℕ) → empty.truth p args ≡ false) → ((f : ℕ) (args : List ℕ) → empty.value f args ≡ None) → with_values values (with_facts facts empty) ≡ initial task
+    → ((p : ℕ) (args : List ℕ) → empty.truth p args ≡ false) → ((f : ℕ) (args : List ℕ) → empty.value f args ≡ None) → with_given_values values (with_facts facts empty) ≡ initial task
 initial_is task facts values empty same alike falses nones = one_state _ _
     (λ p args. ap (λ b. b || list_any (gives_truth p args) facts) (falses p args) ∙ ap (λ fs. list_any (gives_truth p args) fs) same)
     (λ f args. ap (λ v. or_else v (option_map (λ (g : Given). g.value) (find (gives_value f args) values))) (nones f args) ∙ ap (λ vs. option_map (λ (g : Given). g.value) (find (gives_value f args) vs)) alike)

@@ -1,8 +1,8 @@
 -- Clashes by a table of sums.
-use Rattle.std.proofs.Common.{◌≡◌, ℕ, ◌+◌, ◌<◌, ◌==◌, Bool, true, false, not, ◌&&◌, ◌||◌, cond, List, [], ◌∷◌, ◌++◌, length, get_or, take, drop, Some, None, Err, refl, sym, ap, ap₂, subst, ◌∙◌}
+use Rattle.std.proofs.Common.{◌≡◌, ℕ, ◌+◌, ◌<◌, ◌==◌, Bool, true, false, not, ◌&&◌, ◌||◌, cond, List, Option, [], ◌∷◌, ◌++◌, length, get_or, take, drop, Some, None, Err, refl, sym, ap, ap₂, subst, ◌∙◌}
 use Rattle.std.proofs.lemmas.List.{at_drop_more}
 use Rattle.std.proofs.lemmas.List.Folds.{list_any-append}
-use Rattle.std.specs.Prelude.{bytes_eq}
+use Rattle.std.specs.Prelude.{bytes_eq, if◌then◌else◌}
 use Rattle.std.specs.List.{list_any}
 use Rattle.ground_map.specs.GroundMap.{value_at}
 use Rattle.rational.specs.Fraction.{Fraction}
@@ -10,11 +10,29 @@ use Rattle.pddl_task.specs.declared.effect.NumOp.{NumOp}
 use Rattle.plan_step.specs.declared.failure.StepFail.TheVariants as fail
 use Rattle.plan_step.specs.declared.touches.Touch.{Touch}
 use Rattle.plan_step.specs.Effects.{Change, put, change, adds_up, clashes, first_clash}
-use Rattle.plan_step.specs.Touches.{change_of, changes_of}
-use Rattle.plan_step.specs.Sums.{clash_with, clash_told, IsAdded, changes_function, is_no_sum, told, Tells}
+use Rattle.plan_step.specs.Touches.{change_in, changes_of}
+use Rattle.plan_step.specs.Sums.{Table, clash_with, clash_told, IsAdded}
 use Rattle.plan_step.proofs.Booleans.{flipped, or_false, neither_true, number_itself, arguments_itself}
 use Rattle.plan_step.proofs.Restoring.{chosen, one_call}
 use Rattle.plan_step.proofs.Placing.{changes_more}
+
+-- ---- what a table says of some changes
+
+abbrev pub changes_function : ℕ → List ℕ → Change → Bool
+changes_function f args (put sign p others) = false
+changes_function f args (change op g others by) = g == f && bytes_eq others args
+
+abbrev pub is_no_sum : ℕ → List ℕ → Change → Bool
+is_no_sum f args (put sign p others) = false
+is_no_sum f args (change op g others by) = (g == f && bytes_eq others args) && not (adds_up op)
+
+abbrev pub told : List Change → ℕ → List ℕ → Option Bool
+told changes f args = if list_any (changes_function f args) changes then Some (not (list_any (is_no_sum f args) changes)) else None
+
+pub record Tells (changes : List Change) (table : Table) : Type 0 where
+  pub says : (f : ℕ) (args : List ℕ) → value_at table 0 (f ∷ args) ≡ told changes f args
+
+-- ---- what it answers
 
 any_same : {X : Type 0} (p q : X → Bool) → ((x : X) → p x ≡ q x) → (xs : List X) → list_any p xs ≡ list_any q xs
 any_same p q h [] = refl
@@ -135,15 +153,15 @@ module _ (touches : List Touch) (i : ℕ) (t : Touch) (within : i < length touch
   abbrev front : List Change
   front = changes_of (take i touches)
 
-  here : first_clash i front (changes_of (drop i touches)) ≡ cond (list_any (clashes (change_of t)) front) (Err (fail.Clash i)) (first_clash (i + 1) (front ++ change_of t ∷ []) (changes_of (drop (i + 1) touches)))
+  here : first_clash i front (changes_of (drop i touches)) ≡ cond (list_any (clashes (change_in t)) front) (Err (fail.Clash i)) (first_clash (i + 1) (front ++ change_in t ∷ []) (changes_of (drop (i + 1) touches)))
   here =
       at_drop_more (λ us. first_clash i front (changes_of us)) touches i t within
-      ∙ ap (λ (u : Touch). first_clash i front (change_of u ∷ changes_of (drop (i + 1) touches))) (sym is)
+      ∙ ap (λ (u : Touch). first_clash i front (change_in u ∷ changes_of (drop (i + 1) touches))) (sym is)
 
-  pub clashes_here : list_any (clashes (change_of t)) front ≡ true → first_clash i front (changes_of (drop i touches)) ≡ Err (fail.Clash i)
-  clashes_here h = here ∙ ap (λ b. cond b (Err (fail.Clash i)) (first_clash (i + 1) (front ++ change_of t ∷ []) (changes_of (drop (i + 1) touches)))) h
+  pub clashes_here : list_any (clashes (change_in t)) front ≡ true → first_clash i front (changes_of (drop i touches)) ≡ Err (fail.Clash i)
+  clashes_here h = here ∙ ap (λ b. cond b (Err (fail.Clash i)) (first_clash (i + 1) (front ++ change_in t ∷ []) (changes_of (drop (i + 1) touches)))) h
 
-  pub no_clash_here : list_any (clashes (change_of t)) front ≡ false → first_clash i front (changes_of (drop i touches)) ≡ first_clash (i + 1) (changes_of (take (i + 1) touches)) (changes_of (drop (i + 1) touches))
+  pub no_clash_here : list_any (clashes (change_in t)) front ≡ false → first_clash i front (changes_of (drop i touches)) ≡ first_clash (i + 1) (changes_of (take (i + 1) touches)) (changes_of (drop (i + 1) touches))
   no_clash_here h =
-      here ∙ ap (λ b. cond b (Err (fail.Clash i)) (first_clash (i + 1) (front ++ change_of t ∷ []) (changes_of (drop (i + 1) touches)))) h
+      here ∙ ap (λ b. cond b (Err (fail.Clash i)) (first_clash (i + 1) (front ++ change_in t ∷ []) (changes_of (drop (i + 1) touches)))) h
       ∙ ap (λ cs. first_clash (i + 1) cs (changes_of (drop (i + 1) touches))) (sym (changes_more touches i t within is))

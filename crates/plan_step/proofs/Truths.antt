@@ -10,7 +10,7 @@ use Rattle.plan_step.specs.declared.touches.Touch.TheVariants as touch
 use Rattle.plan_step.specs.State.{PlanState}
 use Rattle.plan_step.specs.Held.{with_atom}
 use Rattle.plan_step.specs.Effects.{Change, put, change, puts}
-use Rattle.plan_step.specs.Touches.{change_of}
+use Rattle.plan_step.specs.Touches.{change_in}
 use Rattle.plan_step.specs.Application.{with_truths, put_by}
 use Rattle.plan_step.proofs.Booleans.{flipped}
 
@@ -47,7 +47,7 @@ atom_by false true old p args changes s = other false changes s (put true p args
 atom_by false false old p args changes s = own false changes s (put false p args) p args (λ q others. refl)
 
 -- a touch behind others
-pub truths_more : (b : Bool) (t : Touch) (changes : List Change) (s : PlanState) → put_by b t (with_truths b changes s) ≡ with_truths b (changes ++ change_of t ∷ []) s
+pub truths_more : (b : Bool) (t : Touch) (changes : List Change) (s : PlanState) → put_by b t (with_truths b changes s) ≡ with_truths b (changes ++ change_in t ∷ []) s
 truths_more b (touch.Atom sign p args old) changes s = atom_by b sign old p args changes s
 truths_more b (touch.Function op f args by old) changes s = other b changes s (change op f args by) (λ q others. refl)
 

@@ -14,7 +14,7 @@ use Rattle.plan_step.specs.State.{PlanState}
 use Rattle.plan_step.specs.Met.{Met, found, passes, and_then}
 use Rattle.plan_step.specs.Held.{with_function}
 use Rattle.plan_step.specs.Effects.{Change, target_met, with_value, values_behind}
-use Rattle.plan_step.specs.Touches.{Target, target_of, change_of, changes_of, HasTarget, DiffersIn, is_function}
+use Rattle.plan_step.specs.Touches.{Target, target_of, change_in, changes_of, HasTarget, DiffersIn, is_function}
 use Rattle.plan_step.specs.Application.{TouchChanges}
 use Rattle.plan_step.proofs.Booleans.{flipped}
 use Rattle.plan_step.proofs.Restoring.{chosen, differs_refl}
@@ -44,12 +44,12 @@ has_value ScaleDown x = refl
 
 module _ (old new : PlanState) where
   -- the rest of the changes, from the values behind the first
-  pub values_step : (t : Touch) (more : List Change) (r : Unit {0}) → TouchChanges t old new (Ok r) → values_behind (change_of t ∷ more) old.value ≡ values_behind more new.value
+  pub values_step : (t : Touch) (more : List Change) (r : Unit {0}) → TouchChanges t old new (Ok r) → values_behind (change_in t ∷ more) old.value ≡ values_behind more new.value
   values_step (touch.Atom sign p args kept) more r h = ap (λ (s : PlanState). values_behind more s.value) (sym h)
   values_step (touch.Function op f args by kept) more r h =
       ap (λ (m : Met Fraction). and_then m (λ x. values_behind more (with_value old.value f args x))) h.1 ∙ ap (λ (s : PlanState). values_behind more s.value) (sym h.2)
 
-  pub values_fail : (t : Touch) (more : List Change) (w : Wide) → TouchChanges t old new (Err w) → values_behind (change_of t ∷ more) old.value ≡ passes w
+  pub values_fail : (t : Touch) (more : List Change) (w : Wide) → TouchChanges t old new (Err w) → values_behind (change_in t ∷ more) old.value ≡ passes w
   values_fail (touch.Atom sign p args kept) more w h = absurd h
   values_fail (touch.Function op f args by kept) more w h = ap (λ (m : Met Fraction). and_then m (λ x. values_behind more (with_value old.value f args x))) h.0
 
@@ -87,8 +87,8 @@ module _ (touches : List Touch) (first : PlanState) where
   AreChanged i s = values_behind (changes_of touches) first.value ≡ values_behind (changes_of (drop i touches)) s.value
 
   split : (i : ℕ) (t : Touch) (s : PlanState) → i < length touches → t ≡ get_or touches i t
-      → values_behind (changes_of (drop i touches)) s.value ≡ values_behind (change_of t ∷ changes_of (drop (i + 1) touches)) s.value
-  split i t s within is = at_drop_more (λ us. values_behind (changes_of us) s.value) touches i t within ∙ ap (λ (u : Touch). values_behind (change_of u ∷ changes_of (drop (i + 1) touches)) s.value) (sym is)
+      → values_behind (changes_of (drop i touches)) s.value ≡ values_behind (change_in t ∷ changes_of (drop (i + 1) touches)) s.value
+  split i t s within is = at_drop_more (λ us. values_behind (changes_of us) s.value) touches i t within ∙ ap (λ (u : Touch). values_behind (change_in u ∷ changes_of (drop (i + 1) touches)) s.value) (sym is)
 
   pub changed_more : (i : ℕ) (t : Touch) (s new : PlanState) → AreChanged i s → i < length touches → t ≡ get_or touches i t → (r : Unit {0}) → TouchChanges t s new (Ok r) → AreChanged (i + 1) new
   changed_more i t s new h within is r changes = h ∙ split i t s within is ∙ values_step s new t (changes_of (drop (i + 1) touches)) r changes

@@ -1,5 +1,5 @@
--- An operation that a step, a repetition or the test of a goal answers passes 128 bits: some number that it names is past
--- them.
+-- An operation that an evaluation, a step, a repetition or the test of a goal answers passes 128 bits: some number that it
+-- names is past them.
 use Rattle.std.proofs.Common.{◌≡◌, ℕ, zero, suc, ◌+◌, ◌==◌, Bool, true, false, cond, List, [], ◌∷◌, ◌++◌, map, length, Option, Some, None, Result, Ok, Err, arith, subst}
 use Rattle.std.proofs.lemmas.Bool.Decides.{nat_tests}
 use Rattle.std.proofs.lemmas.List.Folds.{Any-from_list_any}
@@ -13,6 +13,7 @@ use Rattle.frac128.specs.declared.operations.Wide.{Wide}
 use Rattle.pddl_task.specs.declared.action.Action.{Action}
 use Rattle.pddl_task.specs.declared.condition.Cond.{Cond}
 use Rattle.pddl_task.specs.declared.effect.Effect.{Effect}
+use Rattle.pddl_task.specs.declared.expression.Expr.{Expr}
 use Rattle.pddl_task.specs.declared.instance.Instance.{Instance}
 use Rattle.pddl_task.specs.declared.parts.TaskParts.{TaskParts}
 use Rattle.plan_step.specs.declared.failure.StepFail.{StepFail}
@@ -20,13 +21,14 @@ use Rattle.plan_step.specs.declared.failure.StepFail.TheVariants as fail
 use Rattle.plan_step.specs.declared.failure.RepeatFail.{RepeatFail}
 use Rattle.plan_step.specs.State.{PlanState}
 use Rattle.plan_step.specs.Met.{Met, found, lacks, passes, and_then, is_past, passes_128}
+use Rattle.plan_step.specs.Evaluation.{evaluated}
 use Rattle.plan_step.specs.Conditions.{leaf_met, leaves_met, first_unmet, all_met, goal_met}
 use Rattle.plan_step.specs.Effects.{Change, put, change, clashes, change_met, all_changes, more_changes, first_clash, changed, with_value, values_behind}
-use Rattle.plan_step.specs.Step.{then_next, action_with, action_for, typed_arguments, all_fit, with_values, state_behind, made_by, step_from}
+use Rattle.plan_step.specs.Step.{then_next, action_with, action_for, typed_arguments, all_fit, with_values, made_by, step_from}
 use Rattle.plan_step.specs.Repeat.{then_again, repeated_from}
 use Rattle.plan_step.specs.Meaning.{holds, change_of, changed_by}
 use Rattle.plan_step.specs.Laws.{TellsWide}
-use Rattle.plan_step.proofs.Meanings.{IsPast, Agrees}
+use Rattle.plan_step.proofs.Meanings.{IsPast, Agrees, passes_is}
 use Rattle.plan_step.proofs.LeafLaws.{LeafAgrees, leaf_agrees, change_agrees, changed_agrees}
 
 -- ---- by the numbers that the operation names
@@ -37,6 +39,9 @@ past_bits z h = grind (arith, nat_tests)
 passes_by : (w : Wide) → IsPast w → Passes w.op w.x w.y
 unfolding passes_128
 passes_by w h = let some = Any-from_list_any is_past (named_numbers w.op w.x w.y) h in (some.0, some.1, some.2, some.3, past_bits some.1 some.4)
+
+pub wide_value : (state : PlanState) (args : List ℕ) (e : Expr) (w : Wide) → evaluated state args e ≡ passes w → Passes w.op w.x w.y
+wide_value state args e w is = passes_by w (passes_is state args e w is)
 
 -- ---- answers whose operations pass
 

@@ -25,8 +25,8 @@ with_given given state = record {
 }
 
 -- the first value that is given
-abbrev pub with_values : List Given → PlanState → PlanState
-with_values values state = record {
+abbrev pub with_given_values : List Given → PlanState → PlanState
+with_given_values values state = record {
   truth = state.truth;
   value = λ f args. or_else (state.value f args) (option_map (λ given. given.value) (find (gives_value f args) values));
 }

@@ -29,12 +29,12 @@ leaf_answer leaf (passes w) = Err (fail.Wide w)
 
 -- ---- each touch
 
-abbrev pub change_of : Touch → Change
-change_of (touch.Atom sign pred args old) = put sign pred args
-change_of (touch.Function op func args by old) = change op func args by
+abbrev pub change_in : Touch → Change
+change_in (touch.Atom sign pred args old) = put sign pred args
+change_in (touch.Function op func args by old) = change op func args by
 
 abbrev pub changes_of : List Touch → List Change
-changes_of touches = map change_of touches
+changes_of touches = map change_in touches
 
 -- an atom or a function
 pub data Target : Type 0 where

@@ -4,7 +4,7 @@ ghost use Rattle.ground_map.specs.GroundMap.{value_at, IsPut};
 ghost use Rattle.std.specs.List.{list_any};
 ghost use Rattle.plan_step.specs.Effects.{adds_up, clashes, first_clash};
 ghost use Rattle.plan_step.specs.Sums.{clash_with, clash_told, IsAdded};
-ghost use Rattle.plan_step.specs.Touches.{Answers, change_of, changes_of};
+ghost use Rattle.plan_step.specs.Touches.{Answers, change_in, changes_of};
 
 use crate::failure::StepFail;
 use crate::touches::Touch;
@@ -20,7 +20,7 @@ fn is_sum(op: NumOp) -> bool
 }
 
 fn is_clash(touch: &Touch, other: &Touch) -> bool
-    ensures { result ≡ clashes (change_of touch.now) (change_of other.now) }
+    ensures { result ≡ clashes (change_in touch.now) (change_in other.now) }
 {
     let Touch::Function { op, func, args, .. } = touch else {
         return false;
@@ -40,7 +40,7 @@ fn is_clash(touch: &Touch, other: &Touch) -> bool
 }
 
 fn clashes_with(touch: &Touch, front: &[Touch]) -> bool
-    ensures { result ≡ list_any (clashes (change_of touch.now)) (changes_of front.now) }
+    ensures { result ≡ list_any (clashes (change_in touch.now)) (changes_of front.now) }
 {
     for other in front {
         if is_clash(touch, other) {
@@ -97,8 +97,8 @@ fn add_change(
 
 fn add_touch(alloc: Global, sums: &mut GroundMap<bool>, touch: &Touch) -> Result<bool, AllocError>
     requires { 0 < length sums.old }
-    ensures clash { IfOk result (λ clash. clash ≡ clash_told (change_of touch.now) sums.old) }
-    ensures added { IfOk result (λ clash. clash ≡ false → IsAdded (change_of touch.now) sums.old sums.new) }
+    ensures clash { IfOk result (λ clash. clash ≡ clash_told (change_in touch.now) sums.old) }
+    ensures added { IfOk result (λ clash. clash ≡ false → IsAdded (change_in touch.now) sums.old sums.new) }
 {
     match touch {
         Touch::Atom { .. } => Ok(false),

@@ -75,7 +75,7 @@ pub(crate) fn test_conditions(state: &State, args: &[u32], conds: &[Cond]) -> Re
 }
 
 /// Whether each leaf holds. It tests them up to the first that doesn't.
-pub(crate) fn all_hold(state: &State, args: &[u32], conds: &[Cond]) -> Result<bool, Wide>
+pub(crate) fn all_met(state: &State, args: &[u32], conds: &[Cond]) -> Result<bool, Wide>
     ensures { result ≡ condition.all_met (condition.leaves_met (state_of state.now) args.now conds.now) }
 {
     for cond in conds {
@@ -91,5 +91,5 @@ pub(crate) fn all_hold(state: &State, args: &[u32], conds: &[Cond]) -> Result<bo
 pub fn goal(task: &Task, state: &State) -> Result<bool, Wide>
     ensures { result ≡ condition.goal_met (state_of state.now) task.now.goal }
 {
-    all_hold(state, &[], task.goal())
+    all_met(state, &[], task.goal())
 }

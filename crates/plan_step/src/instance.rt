@@ -10,7 +10,7 @@ use pddl_task::{Action, Instance, Task};
 use sqlite_items::Items;
 
 /// Whether the object is of one of the types, or of one below.
-fn is_of(task: &Task, types: &[u32], object: u32) -> bool
+fn fits(task: &Task, types: &[u32], object: u32) -> bool
     requires { list_all (λ t. nat_lt t (length task.now.types)) types.now ≡ true }
     ensures { result ≡ steps.fits task.now types.now object }
 {
@@ -27,7 +27,7 @@ fn is_of(task: &Task, types: &[u32], object: u32) -> bool
 }
 
 /// Whether each argument is of its parameter's types.
-fn are_of(task: &Task, params: &[Items<u32>], args: &[u32]) -> bool
+fn all_fit(task: &Task, params: &[Items<u32>], args: &[u32]) -> bool
     requires { are_types (counts_of task.now) params.now ≡ true }
     ensures { result ≡ steps.all_fit task.now params.now args.now }
 {
@@ -35,7 +35,7 @@ fn are_of(task: &Task, params: &[Items<u32>], args: &[u32]) -> bool
         let Some(object) = args.get(i) else {
             return true;
         };
-        if !is_of(task, types.as_slice(), *object) {
+        if !fits(task, types.as_slice(), *object) {
             return false;
         }
     }
@@ -62,7 +62,7 @@ pub(crate) fn fitting_action<'a>(task: &'a Task, by: &Instance) -> Result<&'a Ac
     let Some(action) = action_with(task, by.action, by.args.len()) else {
         return Err(StepFail::Arity);
     };
-    if !are_of(task, action.params.as_slice(), by.args.as_slice()) {
+    if !all_fit(task, action.params.as_slice(), by.args.as_slice()) {
         return Err(StepFail::ArgType);
     }
     Ok(action)

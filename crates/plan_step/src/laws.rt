@@ -4,7 +4,7 @@ ghost use Rattle.std.specs.Prelude.{◌≡◌, ℕ, Bool, List, [], ◌++◌, re
 ghost use Rattle.rational.specs.Fraction.{Fraction};
 ghost use Rattle.pddl_task.specs.declared.expression.Expr.{Expr};
 ghost use Rattle.plan_step.specs.State.{PlanState};
-ghost use Rattle.plan_step.specs.Met.{found, lacks};
+ghost use Rattle.plan_step.specs.Met.{found, lacks, passes};
 ghost use Rattle.plan_step.specs.Evaluation.{evaluated};
 ghost use Rattle.pddl_task.specs.declared.instance.Instance.{Instance};
 ghost use Rattle.pddl_task.specs.declared.parts.TaskParts.{TaskParts};
@@ -67,10 +67,11 @@ pub fn tested_goal_holds()
     ensures { (state : PlanState) (conds : List Cond) (answer : Bool) → goal_met state conds ≡ Ok answer → all_hold state [] conds ≡ answer }
 {}
 
-/// An operation that a step, a repetition or the test of a goal answers passes 128 bits; and the definitions know nothing of
-/// memory.
-#[tactic(auto, using(crate::proofs::WideLaws::wide_step, crate::proofs::WideLaws::wide_repetition, crate::proofs::WideLaws::wide_goal))]
+/// An operation that an evaluation, a step, a repetition or the test of a goal answers passes 128 bits; and the definitions
+/// know nothing of memory.
+#[tactic(auto, using(crate::proofs::WideLaws::wide_value, crate::proofs::WideLaws::wide_step, crate::proofs::WideLaws::wide_repetition, crate::proofs::WideLaws::wide_goal))]
 pub fn answered_operation_passes()
+    ensures value { (state : PlanState) (args : List ℕ) (e : Expr) (w : Wide) → evaluated state args e ≡ passes w → Passes w.op w.x w.y }
     ensures step { (task : TaskParts) (state : PlanState) (by : Instance) (e : StepFail) → step_from task state by ≡ Err e → TellsWide e }
     ensures repetition { (task : TaskParts) (by : Instance) (n at : ℕ) (state : PlanState) (f : RepeatFail) → repeated_from task by at n state ≡ Err f → TellsWide f.fail }
     ensures goal { (state : PlanState) (conds : List Cond) (w : Wide) → goal_met state conds ≡ Err w → Passes w.op w.x w.y }

@@ -22,8 +22,3 @@ pub use failure::{RepeatFail, StepFail};
 pub use repeating::repeat;
 pub use state::State;
 pub use stepping::step;
-
-#[cfg(test)]
-mod step_rows;
-#[cfg(test)]
-mod tests;

@@ -2,7 +2,7 @@
 //! its table is false, or has no value; so a place for it can be made first, and filled without memory later.
 ghost use Rattle.std.specs.Prelude.{◌≡◌, Some, OnOk, IfOk};
 ghost use Rattle.plan_step.specs.State.{initial};
-ghost use Rattle.plan_step.specs.Start.{with_facts, with_given, with_values};
+ghost use Rattle.plan_step.specs.Start.{with_facts, with_given, with_given_values};
 ghost use Rattle.plan_step.specs.Held.{Held, state_of, HasAtom, HasFunction, KeepsPlaces, with_atom, with_function};
 
 use frac128::Frac;
@@ -53,7 +53,7 @@ fn add_value(state: &mut State, given: &Given) -> Result<(), AllocError>
 
 /// Gives functions their values. Of several values of one function the first one counts.
 fn add_values(state: &mut State, values: &[Given]) -> Result<(), AllocError>
-    ensures { OnOk result (state_of state.new ≡ with_values values.now (state_of state.old)) }
+    ensures { OnOk result (state_of state.new ≡ with_given_values values.now (state_of state.old)) }
 {
     for given in values {
         add_value(state, given)?;
@@ -62,15 +62,6 @@ fn add_values(state: &mut State, values: &[Given]) -> Result<(), AllocError>
 }
 
 impl State {
-    /// No atom is true, and no function has a value.
-    #[cfg(test)]
-    pub(crate) fn empty(alloc: Global) -> Result<State, AllocError> {
-        Ok(State {
-            truths: GroundMap::new(alloc, 0)?,
-            values: GroundMap::new(alloc, 0)?,
-        })
-    }
-
     /// The initial state: the facts are true, and functions have the values that are given.
     pub fn initial(alloc: Global, task: &Task) -> Result<State, AllocError>
         ensures { IfOk result (λ s. state_of s ≡ initial task.now) }

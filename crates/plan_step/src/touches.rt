@@ -5,7 +5,7 @@ ghost use Rattle.plan_step.specs.Met.{met_of, and_then, found, lacks};
 ghost use Rattle.plan_step.specs.Held.{state_of};
 ghost use Rattle.plan_step.specs.Evaluation.{objects_of, evaluated};
 ghost use Rattle.plan_step.specs.Effects.{target_met, amount_met, change_met, all_changes, put};
-ghost use Rattle.plan_step.specs.Touches.{Answers, leaf_answer, change_of, changes_of, IsTouch, AreTouches};
+ghost use Rattle.plan_step.specs.Touches.{Answers, leaf_answer, change_in, changes_of, IsTouch, AreTouches};
 
 use crate::evaluation::{evaluate, is_zero};
 use crate::failure::StepFail;
@@ -86,7 +86,7 @@ fn touch_atom(
     pred: u32,
     terms: &[Term],
 ) -> Result<Touch, StepFail>
-    ensures meant { Answers change_of (Ok (put sign pred (objects_of args.now terms.now))) result }
+    ensures meant { Answers change_in (Ok (put sign pred (objects_of args.now terms.now))) result }
     ensures sound { IfOk result (IsTouch (state_of state.now) args.now (Effect.Put sign pred terms.now)) }
 {
     let objects = objects(alloc, args, terms)?;
@@ -109,7 +109,7 @@ fn touch_function(
     terms: &[Term],
     by: &Expr,
 ) -> Result<Touch, StepFail>
-    ensures meant { Answers change_of (leaf_answer leaf (change_met (state_of state.now) args.now (Effect.Change op func terms.now by.now))) result }
+    ensures meant { Answers change_in (leaf_answer leaf (change_met (state_of state.now) args.now (Effect.Change op func terms.now by.now))) result }
     ensures sound { IfOk result (IsTouch (state_of state.now) args.now (Effect.Change op func terms.now by.now)) }
 {
     let objects = objects(alloc, args, terms)?;
@@ -134,7 +134,7 @@ fn touch_leaf(
     leaf: u32,
     effect: &Effect,
 ) -> Result<Touch, StepFail>
-    ensures meant { Answers change_of (leaf_answer leaf (change_met (state_of state.now) args.now effect.now)) result }
+    ensures meant { Answers change_in (leaf_answer leaf (change_met (state_of state.now) args.now effect.now)) result }
     ensures sound { IfOk result (IsTouch (state_of state.now) args.now effect.now) }
 {
     match effect {

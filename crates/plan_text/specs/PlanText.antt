@@ -38,7 +38,7 @@ names_of task = record { actions = map (λ a. a.name) task.actions; objects = ma
 
 -- ---- a part
 
--- a count begins with a zero, as 0 itself does, or passes 128 bits
+-- a count begins with a zero, as 0 itself does, or is more than 2^127 - 1
 unfoldable pub is_miscount : List ℕ → Bool
 is_miscount digits = slice_index digits 0 == 48 || nat_le (2 ^ 127) (digits_value 10 digits)
 

@@ -25,6 +25,3 @@ pub use plan::{Part, Plan};
 pub use reading::read_plan;
 pub use refusal::PlanRefusal;
 pub use writing::{write_part, write_plan};
-
-#[cfg(test)]
-mod tests;

@@ -2,11 +2,14 @@
 ghost use Rattle.std.specs.Prelude.{◌≡◌};
 
 use std::alloc::AllocError;
+use thiserror::Error;
 
 /// The first fault of a plan's text: its kind as a number and its place as a byte offset from 0; or want of memory.
-#[derive(Debug, Drop)]
+#[derive(Debug, Drop, Error)]
 pub enum PlanRefusal {
+    #[error("fault {kind} at byte {place}")]
     Fault { kind: u8, place: u32 },
+    #[error("out of memory")]
     Memory,
 }
 

@@ -14,18 +14,18 @@ use Rattle.pddl_form.specs.Faults.{least}
 use Rattle.pddl_form.proofs.Judging.{least-append}
 use Rattle.typing_names.specs.declared.item.Item.{Item as Counted}
 use Rattle.typing_names.specs.declared.item.Item.TheVariants as counted
-use Rattle.pddl_form.specs.declared.condition.CondAst.{CondAst}
+use Rattle.pddl_condition.specs.declared.condition.CondAst.{CondAst}
 use Rattle.pddl_domain.specs.declared.domain.DomainAst.{DomainAst}
 use Rattle.pddl_problem.specs.declared.ast.InitAst.{InitAst}
 use Rattle.pddl_problem.specs.declared.ast.ProblemAst.{ProblemAst}
 use Rattle.typing_names.specs.Domain.{DomainParts}
 use Rattle.typing_names.specs.Problem.{Item, ProblemParts, atom, value}
-use Rattle.typing.proofs.Noted.{three_noted}
+use Rattle.typing_linear.proofs.Noted.{three_noted}
 use Rattle.std.specs.List.{flat_map}
 use Rattle.typing.specs.Types.{Declared, condition_faults, differing, first_sign, first_value, given_again, item_faults, problem_declared, problem_faults, problem_types}
 use Rattle.typing_names.specs.Items.{are_counted, is_counted, item_of, items_of}
 use Rattle.typing.specs.First.{AreFirst, IsNext, IsPutFirst, sign_faults, value_faults}
-use Rattle.typing.proofs.Changed.{same_either_way}
+use Rattle.typing_linear.proofs.Changed.{same_either_way}
 use Rattle.typing.proofs.Fitting.{each_of}
 use Rattle.std.proofs.lemmas.List.Folds.{list_all-map}
 

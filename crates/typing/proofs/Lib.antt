@@ -1,6 +1,3 @@
-pub mod Noted
-pub mod Reading
-pub mod Changed
 pub mod Fitting
 pub mod TypeLaws
 pub mod GivenLaws

@@ -1,21 +1,20 @@
 -- The numbers that names in use become are in range, in a task that declares as many things at least.
 use Rattle.std.proofs.Common.{◌≡◌, ℕ, ◌+◌, ◌<◌, ◌≤◌, Bool, true, false, List, [], ◌∷◌, ◌++◌, length, map, Option, Some, None, arith, refl, sym, ◌∙◌, ap, subst}
-use Rattle.std.specs.Prelude.{◌&&◌, nat_lt, if◌then◌else◌, is_some, codes}
+use Rattle.std.specs.Prelude.{◌&&◌, nat_lt, if◌then◌else◌, is_some, codes, bytes_eq}
 use Rattle.std.specs.List.{list_all}
 use Rattle.std.proofs.lemmas.Bool.{lt-ltb}
 use Rattle.std.proofs.lemmas.List.{length-append}
 use Rattle.std.proofs.lemmas.List.Quantifiers.{position-Some}
-use Rattle.std.specs.Prelude.{bytes_eq}
 use Rattle.rational.specs.Fraction.{Fraction}
 use Rattle.name_table.specs.NameTable.{number_in, with_name}
 use Rattle.pddl_form.specs.declared.spot.Spot.{Spot}
-use Rattle.pddl_form.specs.declared.expression.ExprAst.{ExprAst}
-use Rattle.pddl_form.specs.declared.expression.ExprAst.TheVariants as ast
-use Rattle.pddl_form.specs.declared.expression.ExprAst.TheOpen.{ExprAst-F}
-use Rattle.pddl_form.specs.declared.expression.ExprAst.TheFolds.{ind-ExprAst, map-ExprAst}
-use Rattle.pddl_form.specs.declared.expression.ExprAst.TheViews.{roll-ExprAst}
-use Rattle.pddl_form.specs.declared.condition.CondAst.{CondAst}
-use Rattle.pddl_form.specs.declared.condition.CondAst.TheVariants as cond_ast
+use Rattle.pddl_condition.specs.declared.expression.ExprAst.{ExprAst}
+use Rattle.pddl_condition.specs.declared.expression.ExprAst.TheVariants as ast
+use Rattle.pddl_condition.specs.declared.expression.ExprAst.TheOpen.{ExprAst-F}
+use Rattle.pddl_condition.specs.declared.expression.ExprAst.TheFolds.{ind-ExprAst, map-ExprAst}
+use Rattle.pddl_condition.specs.declared.expression.ExprAst.TheViews.{roll-ExprAst}
+use Rattle.pddl_condition.specs.declared.condition.CondAst.{CondAst}
+use Rattle.pddl_condition.specs.declared.condition.CondAst.TheVariants as cond_ast
 use Rattle.pddl_form.specs.Judged.{good, mapped, both, each}
 use Rattle.pddl_form.specs.Names.{is_variable}
 use Rattle.pddl_domain.specs.declared.effect.EffAst.{EffAst}
@@ -31,9 +30,10 @@ use Rattle.pddl_task.specs.declared.condition.Cond.TheVariants as cond
 use Rattle.pddl_task.specs.declared.effect.Effect.{Effect}
 use Rattle.pddl_task.specs.declared.effect.Effect.TheVariants as effect
 use Rattle.pddl_task.specs.Numbers.{Counts, is_term, are_terms, is_call, expression_step, is_expression, is_condition, is_effect}
-use Rattle.typing_names.specs.Scope.{Scope, named, found_at, term_named, terms_named, sighted}
-use Rattle.typing_names.specs.Expressions.{apply, minus, over, operation, expression_named, condition_named, change_by, change_operator, relation, effect_named}
-use Rattle.typing_names.proofs.ExpressionLaws.{expression_named-num, expression_named-call, expression_named-op}
+use Rattle.typing_uses.specs.Scope.{Scope, named, found_at, term_named, terms_named, sighted}
+use Rattle.pddl_form.specs.Gather.{apply}
+use Rattle.typing_uses.specs.Expressions.{minus, over, operation, expression_named, condition_named, change_by, change_operator, relation, effect_named}
+use Rattle.typing_uses.proofs.ExpressionLaws.{expression_named-num, expression_named-call, expression_named-op}
 use Rattle.typing.proofs.Good.{MappedGood, mapped_good, BothGood, both_good, both_true, each_passes}
 
 -- ---- numbers of names

@@ -24,9 +24,10 @@ use Rattle.pddl_task.specs.declared.condition.Cond.{Cond}
 use Rattle.pddl_task.specs.declared.effect.Effect.{Effect}
 use Rattle.pddl_task.specs.Task.{parents, names_of as type_names_of}
 use Rattle.pddl_task.specs.Numbers.{IsNumbered, Counts, are_types, is_condition, is_effect, is_action, are_objects, is_fact, is_given}
-use Rattle.typing_names.specs.Scope.{Scope, named, texts, distinct, declared_again}
+use Rattle.typing_uses.specs.Scope.{Scope, named, texts, distinct, declared_again}
 use Rattle.typing_names.specs.Faults.{beside}
-use Rattle.typing_names.specs.Expressions.{apply, condition_named, conditions_named, effect_named, effects_named}
+use Rattle.pddl_form.specs.Gather.{apply}
+use Rattle.typing_uses.specs.Expressions.{condition_named, conditions_named, effect_named, effects_named}
 use Rattle.typing_names.specs.Domain.{names_of, heads_of, object_name, type_names, supertype_of, type_called, types_in, written_type, object_with, object_named, objects_named, or_object, parameter_named, parameters_named, signature_with, signature_named, signatures_named, action_with, within, action_named, actions_named, DomainParts, domain_scope, domain_again, domain_names}
 use Rattle.typing_names.specs.Problem.{Item, atom, value, value_with, objects_in, item_named, facts_in, values_in, ProblemParts, problem_scope, problem_names}
 use Rattle.typing.specs.Types.{domain_declared, problem_declared}

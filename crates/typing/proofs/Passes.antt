@@ -13,7 +13,7 @@ use Rattle.pddl_form.specs.Faults.{first_with, least}
 use Rattle.pddl_form.specs.Judged.{Judged, good, bad, syntax_of, noted}
 use Rattle.pddl_form.specs.Reading.{IsRead}
 use Rattle.pddl_form.specs.Concluded.{text_fault, Concludes, HasOutcome, Answers, RefusesBy as IsRefusedBy}
-use Rattle.pddl_form.specs.declared.condition.CondAst.{CondAst}
+use Rattle.pddl_condition.specs.declared.condition.CondAst.{CondAst}
 use Rattle.pddl_domain.specs.declared.action.ActionAst.{ActionAst}
 use Rattle.pddl_domain.specs.declared.domain.DomainAst.{DomainAst}
 use Rattle.pddl_problem.specs.declared.ast.ProblemAst.{ProblemAst}
@@ -23,7 +23,7 @@ use Rattle.pddl_task.specs.Task.{parents, names_of}
 use Rattle.pddl_task.specs.Numbers.{IsNumbered}
 use Rattle.typing_names.specs.declared.domain.DomainNames.{DomainNames}
 use Rattle.typing_names.specs.declared.problem.ProblemNames.{ProblemNames}
-use Rattle.typing_names.specs.Scope.{Scope}
+use Rattle.typing_uses.specs.Scope.{Scope}
 use Rattle.typing_names.specs.Tables.{scope_in, parts_of, problem_parts_of}
 use Rattle.typing.specs.Resolved.{IsResolved, AreResolved, declared_in}
 use Rattle.typing_names.specs.Faults.{tested}
@@ -38,7 +38,7 @@ use Rattle.typing.proofs.Numbered.{domain_numbered, problem_numbered, task_numbe
 use Rattle.typing_names.specs.Domain.{DomainParts, domain_names, domain_scope}
 use Rattle.typing_names.specs.Problem.{ProblemParts, problem_names, problem_scope}
 use Rattle.typing.specs.Types.{Declared, domain_types, problem_types, domain_declared, problem_declared, problem_faults}
-use Rattle.typing.specs.Linear.{bent_domain, bent_goal}
+use Rattle.typing_linear.specs.Linear.{bent_domain, bent_goal}
 use Rattle.typing.specs.Link.{task_of, first_among, first_fault, passed, link_of, linear_task, problem_link, RefusesBy, Links}
 
 -- ---- a pass that makes something, seen as what the definition makes

@@ -8,17 +8,17 @@ use Rattle.rational.specs.Fraction.{Fraction}
 use Rattle.pddl_form.specs.declared.fault.Fault.{Fault}
 use Rattle.pddl_form.specs.declared.spot.Spot.{Spot}
 use Rattle.pddl_form.specs.declared.typed.Typed.{Typed}
-use Rattle.pddl_form.specs.declared.expression.ExprAst.{ExprAst}
-use Rattle.pddl_form.specs.declared.expression.ExprAst.TheVariants as expr
+use Rattle.pddl_condition.specs.declared.expression.ExprAst.{ExprAst}
+use Rattle.pddl_condition.specs.declared.expression.ExprAst.TheVariants as expr
 use Rattle.pddl_form.specs.Faults.{least}
 use Rattle.pddl_domain.specs.declared.action.ActionAst.{ActionAst}
 use Rattle.pddl_domain.specs.declared.domain.DomainAst.{DomainAst}
 use Rattle.pddl_task.specs.declared.action.Action.{Action}
-use Rattle.typing_names.specs.Scope.{sighted, texts}
+use Rattle.typing_uses.specs.Scope.{sighted, texts}
 use Rattle.typing_names.specs.Domain.{DomainParts, names_of}
 use Rattle.typing.specs.Types.{Declared, action_faults, domain_declared, domain_types, expression_fault_step, expression_faults, body_faults, function_faults, inside}
 use Rattle.typing.specs.Known.{domain_type_faults}
-use Rattle.typing_names.proofs.Written.{fold-Num, fold-Call, fold-Op}
+use Rattle.typing_uses.proofs.Written.{fold-Num, fold-Call, fold-Op}
 
 -- ---- expressions
 

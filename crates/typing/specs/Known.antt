@@ -5,7 +5,7 @@ use Rattle.pddl_form.specs.declared.fault.Fault.{Fault}
 use Rattle.pddl_domain.specs.declared.domain.DomainAst.{DomainAst}
 use Rattle.pddl_task.specs.declared.action.Action.{Action}
 use Rattle.typing.specs.declared.fit.Known.{Known}
-use Rattle.typing_names.specs.Names.{scope_of}
+use Rattle.typing_uses.specs.Names.{scope_of}
 use Rattle.typing.specs.Types.{Declared, action_faults, type_faults}
 
 -- the objects are the constants and those of a problem

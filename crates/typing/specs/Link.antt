@@ -17,7 +17,7 @@ use Rattle.typing_names.specs.Faults.{tested}
 use Rattle.typing_names.specs.Domain.{DomainParts, domain_names}
 use Rattle.typing_names.specs.Problem.{ProblemParts, problem_names, facts_in, values_in}
 use Rattle.typing.specs.Types.{domain_types, problem_types}
-use Rattle.typing.specs.Linear.{bent_domain, bent_goal}
+use Rattle.typing_linear.specs.Linear.{bent_domain, bent_goal}
 
 abbrev pub task_of : DomainParts → ProblemParts → TaskParts
 task_of d p = record {

@@ -10,11 +10,11 @@ use Rattle.name_table.specs.NameTable.{number_in}
 use Rattle.pddl_form.specs.declared.fault.Fault.{Fault}
 use Rattle.pddl_form.specs.declared.spot.Spot.{Spot}
 use Rattle.pddl_form.specs.declared.typed.Typed.{Typed}
-use Rattle.pddl_form.specs.declared.expression.ExprAst.{ExprAst}
-use Rattle.pddl_form.specs.declared.expression.ExprAst.TheOpen.{ExprAst-F}
-use Rattle.pddl_form.specs.declared.expression.ExprAst.TheFolds.{fold-ExprAst}
-use Rattle.pddl_form.specs.declared.condition.CondAst.{CondAst}
-use Rattle.pddl_form.specs.declared.condition.CondAst.TheVariants as cond_ast
+use Rattle.pddl_condition.specs.declared.expression.ExprAst.{ExprAst}
+use Rattle.pddl_condition.specs.declared.expression.ExprAst.TheOpen.{ExprAst-F}
+use Rattle.pddl_condition.specs.declared.expression.ExprAst.TheFolds.{fold-ExprAst}
+use Rattle.pddl_condition.specs.declared.condition.CondAst.{CondAst}
+use Rattle.pddl_condition.specs.declared.condition.CondAst.TheVariants as cond_ast
 use Rattle.pddl_form.specs.Names.{is_variable}
 use Rattle.pddl_domain.specs.declared.effect.EffAst.{EffAst}
 use Rattle.pddl_domain.specs.declared.effect.EffAst.TheVariants as eff_ast
@@ -27,7 +27,7 @@ use Rattle.pddl_task.specs.declared.declared.Object.{Object}
 use Rattle.pddl_task.specs.declared.declared.Signature.{Signature}
 use Rattle.pddl_task.specs.declared.action.Action.{Action}
 use Rattle.pddl_task.specs.Task.{parents}
-use Rattle.typing_names.specs.Scope.{Scope}
+use Rattle.typing_uses.specs.Scope.{Scope}
 use Rattle.typing_names.specs.Domain.{DomainParts, domain_scope, within}
 use Rattle.typing_names.specs.Problem.{ProblemParts, Item, atom, value, problem_scope}
 

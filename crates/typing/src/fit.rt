@@ -16,7 +16,7 @@ use pddl_form::{FirstFault, Sort, Spot, takes};
 use pddl_task::{Object, Signature};
 use sqlite_items::Items;
 use std::alloc::Global;
-use typing_names::{Names, note};
+use typing_uses::{Names, note};
 
 /// The tables of names, and what the names are declared with. The objects are those of a problem, and the parameters those
 /// of one action: there are none elsewhere.

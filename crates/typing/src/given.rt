@@ -19,7 +19,8 @@ use ground_map::GroundMap;
 use pddl_form::FirstFault;
 use pddl_problem::{InitAst, ProblemAst};
 use std::alloc::{AllocError, Global};
-use typing_names::{Item, note};
+use typing_names::Item;
+use typing_uses::note;
 
 fn judge_init_item(alloc: Global, known: &Known, item: &InitAst, faults: &mut FirstFault)
     requires { AreTyped (declared_of known.now) }

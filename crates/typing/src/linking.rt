@@ -7,7 +7,7 @@ ghost use Rattle.pddl_form.specs.Judged.{good};
 ghost use Rattle.typing_names.specs.Domain.{domain_names};
 ghost use Rattle.typing_names.specs.Problem.{problem_names};
 ghost use Rattle.typing.specs.Types.{domain_types, problem_types};
-ghost use Rattle.typing.specs.Linear.{bent_domain, bent_goal};
+ghost use Rattle.typing_linear.specs.Linear.{bent_domain, bent_goal};
 ghost use Rattle.typing_names.specs.Faults.{tested};
 ghost use Rattle.typing.specs.Link.{Links};
 ghost use Rattle.typing_names.specs.Tables.{parts_of, problem_parts_of};
@@ -16,7 +16,6 @@ ghost use Rattle.typing.specs.Resolved.{IsResolved, AreResolved, declared_in};
 
 use crate::fit::Known;
 use crate::given::judge_problem_types;
-use crate::linear::{Changing, judge_domain_linearity, judge_goal_linearity};
 use crate::making::make_task;
 use crate::types::judge_domain_types;
 use name_table::NameTable;
@@ -26,7 +25,9 @@ use pddl_problem::ProblemAst;
 use pddl_task::{Object, Task};
 use sexpr::{Source, TextRefusal};
 use std::alloc::Global;
-use typing_names::{DomainNames, Names, ProblemNames, resolve_domain, resolve_problem};
+use typing_linear::{Changing, judge_domain_linearity, judge_goal_linearity};
+use typing_names::{DomainNames, ProblemNames, resolve_domain, resolve_problem};
+use typing_uses::Names;
 
 /// The pass over the domain's names.
 fn pass_domain_names(alloc: Global, domain: &DomainAst) -> Result<DomainNames, TextRefusal>

@@ -4,7 +4,7 @@
 ghost use Rattle.std.specs.Prelude.{◌≡◌, ◌<◌, Some, true, length, IfSome, OnOk};
 ghost use Rattle.std.specs.List.{flat_map};
 ghost use Rattle.pddl_form.specs.Faults.{least};
-ghost use Rattle.typing_names.specs.Scope.{sighted, texts};
+ghost use Rattle.typing_uses.specs.Scope.{sighted, texts};
 ghost use Rattle.typing_names.specs.Domain.{names_of};
 ghost use Rattle.typing.specs.Types as types;
 ghost use Rattle.typing.specs.Known.{AreTyped, are_all_types, declared_of, domain_type_faults, have_types};
@@ -12,11 +12,13 @@ ghost use Rattle.typing.specs.Known.{AreTyped, are_all_types, declared_of, domai
 use crate::fit::{Known, judge_atom, judge_function, note_misfit};
 use hierarchy::Hierarchy;
 use name_table::NameTable;
+use pddl_condition::{CondAst, ExprAst};
 use pddl_domain::{ActionAst, DomainAst, EffAst};
-use pddl_form::{CondAst, ExprAst, FirstFault, Typed};
+use pddl_form::{FirstFault, Typed};
 use pddl_task::Action;
 use std::alloc::{AllocError, Global};
-use typing_names::{Names, add_name};
+use typing_names::add_name;
+use typing_uses::Names;
 
 #[cycle(types)]
 fn judge_expressions(alloc: Global, known: &Known, exprs: &[ExprAst], faults: &mut FirstFault)
@@ -40,7 +42,7 @@ fn judge_expression(alloc: Global, known: &Known, expr: &ExprAst, faults: &mut F
     }
 }
 
-#[tactic(auto, using(crate::proofs::Noted::both_noted))]
+#[tactic(auto, using(typing_linear::proofs::Noted::both_noted))]
 fn judge_condition(alloc: Global, known: &Known, condition: &CondAst, faults: &mut FirstFault)
     requires { AreTyped (declared_of known.now) }
     ensures { faults.new ≡ least faults.old (types.condition_faults (declared_of known.now) condition.now) }
@@ -69,7 +71,7 @@ pub(crate) fn judge_conditions(
     }
 }
 
-#[tactic(auto, using(crate::proofs::Noted::both_noted))]
+#[tactic(auto, using(typing_linear::proofs::Noted::both_noted))]
 fn judge_effect(alloc: Global, known: &Known, effect: &EffAst, faults: &mut FirstFault)
     requires { AreTyped (declared_of known.now) }
     ensures { faults.new ≡ least faults.old (types.effect_faults (declared_of known.now) effect.now) }
@@ -92,7 +94,7 @@ fn judge_effects(alloc: Global, known: &Known, effects: &[EffAst], faults: &mut 
     }
 }
 
-#[tactic(auto, using(crate::proofs::Noted::both_noted))]
+#[tactic(auto, using(typing_linear::proofs::Noted::both_noted))]
 fn judge_body(alloc: Global, known: &Known, written: &ActionAst, faults: &mut FirstFault)
     requires { AreTyped (declared_of known.now) }
     ensures { faults.new ≡ least faults.old (types.body_faults (declared_of known.now) written.now) }
@@ -206,7 +208,7 @@ fn judge_types(
 }
 
 /// The pass over the types of a domain, with the actions that it comes to.
-#[tactic(auto, using(crate::proofs::Noted::both_noted))]
+#[tactic(auto, using(typing_linear::proofs::Noted::both_noted))]
 pub(crate) fn judge_domain_types<'a>(
     alloc: Global,
     known: &Known<'a>,

@@ -9,8 +9,8 @@ use Rattle.pddl_form.specs.Gather.{option_both}
 use Rattle.pddl_form.specs.Reading.{IsRead}
 use Rattle.pddl_form.proofs.Loops.{read_good, read_both, read_as, map-take}
 use Rattle.typing_names.specs.Faults.{beside, tested}
-use Rattle.typing_names.specs.Gather.{second}
-use Rattle.typing_names.specs.Scope.{texts, sighted, again_behind, declared_again}
+use Rattle.pddl_form.specs.Sections.{second}
+use Rattle.typing_uses.specs.Scope.{texts, sighted, again_behind, declared_again}
 
 -- ---- tests
 

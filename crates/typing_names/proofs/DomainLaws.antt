@@ -3,9 +3,9 @@ use Rattle.std.proofs.Common.{◌≡◌, ℕ, List, [], map, Option, Some, None,
 use Rattle.pddl_form.specs.declared.fault.Fault.{Fault}
 use Rattle.pddl_form.specs.declared.spot.Spot.{Spot}
 use Rattle.pddl_form.specs.declared.typed.Typed.{Typed}
-use Rattle.pddl_form.specs.declared.condition.CondAst.{CondAst}
+use Rattle.pddl_condition.specs.declared.condition.CondAst.{CondAst}
 use Rattle.pddl_form.specs.Judged.{Judged, good, bad, mapped, both, each}
-use Rattle.pddl_form.specs.Gather.{option_both}
+use Rattle.pddl_form.specs.Gather.{option_both, apply}
 use Rattle.pddl_form.specs.Parts.{pair}
 use Rattle.pddl_form.specs.Reading.{IsRead}
 use Rattle.pddl_form.proofs.Loops.{mapped_none, mapped_some, read_both, read_as}
@@ -15,11 +15,11 @@ use Rattle.pddl_domain.specs.declared.effect.EffAst.{EffAst}
 use Rattle.pddl_task.specs.declared.action.Action.{Action}
 use Rattle.pddl_task.specs.declared.condition.Cond.{Cond}
 use Rattle.pddl_task.specs.declared.effect.Effect.{Effect}
-use Rattle.typing_names.specs.Scope.{Scope, named, texts, sighted, declared_again}
+use Rattle.typing_uses.specs.Scope.{Scope, named, texts, sighted, declared_again}
 use Rattle.typing_names.specs.Faults.{beside}
-use Rattle.typing_names.specs.Expressions.{apply, conditions_named, effects_named}
+use Rattle.typing_uses.specs.Expressions.{conditions_named, effects_named}
 use Rattle.typing_names.specs.Domain.{names_of, written_type, object_with, object_named, or_object, parameter_named, parameters_named, signature_with, signature_named, action_with, within, action_named}
-use Rattle.typing_names.proofs.ExpressionLaws.{changed_none, changed_some}
+use Rattle.typing_uses.proofs.ExpressionLaws.{changed_none, changed_some}
 
 -- ---- objects
 

@@ -4,7 +4,7 @@ use Rattle.pddl_form.specs.declared.fault.Fault.{Fault}
 use Rattle.pddl_form.specs.declared.spot.Spot.{Spot}
 use Rattle.pddl_form.specs.declared.typed.Typed.{Typed}
 use Rattle.pddl_form.specs.Judged.{Judged, bad, mapped, both}
-use Rattle.pddl_form.specs.Gather.{option_both}
+use Rattle.pddl_form.specs.Gather.{option_both, apply}
 use Rattle.pddl_form.specs.Parts.{pair}
 use Rattle.pddl_form.specs.Reading.{IsRead}
 use Rattle.pddl_form.proofs.Judging.{faults_of-mapped}
@@ -16,13 +16,12 @@ use Rattle.pddl_task.specs.declared.declared.TypeName.{TypeName}
 use Rattle.pddl_task.specs.declared.declared.Object.{Object}
 use Rattle.pddl_task.specs.declared.declared.Signature.{Signature}
 use Rattle.pddl_task.specs.declared.action.Action.{Action}
-use Rattle.typing_names.specs.Scope.{Scope, texts, sighted, distinct, declared_again}
+use Rattle.typing_uses.specs.Scope.{Scope, texts, sighted, distinct, declared_again}
 use Rattle.typing_names.specs.Faults.{beside, tested}
-use Rattle.typing_names.specs.Gather.{second}
-use Rattle.typing_names.specs.Expressions.{apply}
+use Rattle.pddl_form.specs.Sections.{second}
 use Rattle.typing_names.specs.Domain.{names_of, heads_of, type_names, types_in, objects_named, signatures_named, actions_named, DomainParts, parts_with, domain_scope, domain_again, parts_named, domain_names}
 use Rattle.typing_names.proofs.Declaring.{read_tests, read_beside}
-use Rattle.typing_names.proofs.ExpressionLaws.{of_pair, of_pairs, both_pair, both_pairs}
+use Rattle.typing_uses.proofs.ExpressionLaws.{of_pair, of_pairs, both_pair, both_pairs}
 use Rattle.typing_names.proofs.DomainLaws.{apply-mapped}
 
 -- ---- declarations

@@ -4,9 +4,9 @@ use Rattle.std.proofs.lemmas.List.{map-append}
 use Rattle.std.specs.Option.{option_map}
 use Rattle.pddl_form.specs.declared.fault.Fault.{Fault}
 use Rattle.pddl_form.specs.declared.typed.Typed.{Typed}
-use Rattle.pddl_form.specs.declared.condition.CondAst.{CondAst}
+use Rattle.pddl_condition.specs.declared.condition.CondAst.{CondAst}
 use Rattle.pddl_form.specs.Judged.{Judged, mapped, both, each}
-use Rattle.pddl_form.specs.Gather.{option_both, push}
+use Rattle.pddl_form.specs.Gather.{option_both, push, apply}
 use Rattle.pddl_form.specs.Parts.{pair}
 use Rattle.pddl_form.specs.Reading.{IsRead}
 use Rattle.pddl_form.proofs.Loops.{AreRead, none_read, one_more_read, mapped_none, mapped_some, read_both, read_as}
@@ -17,16 +17,16 @@ use Rattle.pddl_task.specs.declared.declared.Object.{Object}
 use Rattle.pddl_task.specs.declared.condition.Cond.{Cond}
 use Rattle.typing_names.specs.declared.item.Item.{Item as Counted}
 use Rattle.typing_names.specs.declared.domain.Tables.{Tables}
-use Rattle.typing_names.specs.Scope.{Scope, texts, sighted, declared_again}
+use Rattle.typing_uses.specs.Scope.{Scope, texts, sighted, declared_again}
 use Rattle.typing_names.specs.Faults.{beside, tested}
-use Rattle.typing_names.specs.Gather.{second}
-use Rattle.typing_names.specs.Expressions.{apply, conditions_named}
+use Rattle.pddl_form.specs.Sections.{second}
+use Rattle.typing_uses.specs.Expressions.{conditions_named}
 use Rattle.typing_names.specs.Tables.{scope_in, with_items}
 use Rattle.typing_names.specs.Domain.{names_of, objects_named, domain_scope}
 use Rattle.typing_names.specs.Problem.{Item, item_named, ProblemParts, parts_with, problem_scope, domain_faults, parts_named, problem_names}
 use Rattle.typing_names.specs.Items.{item_of}
 use Rattle.typing_names.proofs.Declaring.{read_tests, read_beside}
-use Rattle.typing_names.proofs.ExpressionLaws.{of_pairs, both_pairs}
+use Rattle.typing_uses.proofs.ExpressionLaws.{of_pairs, both_pairs}
 use Rattle.typing_names.proofs.DomainLaws.{apply-mapped}
 use Rattle.typing_names.proofs.DomainParts.{beside-mapped}
 

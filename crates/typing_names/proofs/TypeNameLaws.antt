@@ -16,7 +16,7 @@ use Rattle.pddl_form.specs.declared.typed.Typed.{Typed}
 use Rattle.pddl_form.proofs.Loops.{map-take}
 use Rattle.pddl_task.specs.declared.declared.TypeName.{TypeName}
 use Rattle.pddl_task.specs.Task.{names_of, parents}
-use Rattle.typing_names.specs.Scope.{texts, sighted}
+use Rattle.typing_uses.specs.Scope.{texts, sighted}
 use Rattle.typing_names.specs.Domain.{object_name, listed_under, supertype_of, type_called, type_names, types_in}
 use Rattle.typing_names.specs.TypeNames.{number_above, parent_in}
 use Rattle.typing_names.proofs.Declaring.{sighted-last}

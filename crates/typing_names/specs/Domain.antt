@@ -15,9 +15,10 @@ use Rattle.pddl_task.specs.declared.declared.Signature.{Signature}
 use Rattle.pddl_task.specs.declared.action.Action.{Action}
 use Rattle.pddl_task.specs.declared.condition.Cond.{Cond}
 use Rattle.pddl_task.specs.declared.effect.Effect.{Effect}
-use Rattle.typing_names.specs.Scope.{Scope, texts, named, sighted, distinct, declared_again}
+use Rattle.typing_uses.specs.Scope.{Scope, texts, named, sighted, distinct, declared_again}
 use Rattle.typing_names.specs.Faults.{beside}
-use Rattle.typing_names.specs.Expressions.{apply, conditions_named, effects_named}
+use Rattle.pddl_form.specs.Gather.{apply}
+use Rattle.typing_uses.specs.Expressions.{conditions_named, effects_named}
 
 abbrev pub names_of : List Typed → List Spot
 names_of items = map (λ t. t.name) items

@@ -1,9 +1,4 @@
 pub mod Faults
-pub mod Gather
-pub mod Scope
-pub mod Names
-pub mod Expressions
-pub mod Operators
 pub mod Domain
 pub mod TypeNames
 pub mod Problem

@@ -12,9 +12,10 @@ use Rattle.pddl_task.specs.declared.declared.Object.{Object}
 use Rattle.pddl_task.specs.declared.condition.Cond.{Cond}
 use Rattle.pddl_task.specs.declared.start.Fact.{Fact}
 use Rattle.pddl_task.specs.declared.start.Given.{Given}
-use Rattle.typing_names.specs.Scope.{Scope, texts, named, sighted, declared_again}
+use Rattle.typing_uses.specs.Scope.{Scope, texts, named, sighted, declared_again}
 use Rattle.typing_names.specs.Faults.{beside}
-use Rattle.typing_names.specs.Expressions.{apply, conditions_named}
+use Rattle.pddl_form.specs.Gather.{apply}
+use Rattle.typing_uses.specs.Expressions.{conditions_named}
 use Rattle.typing_names.specs.Domain.{names_of, domain_scope, objects_named}
 
 -- `:domain` names another domain (kind 13)

@@ -4,7 +4,7 @@ use Rattle.pddl_task.specs.declared.declared.Object.{Object}
 use Rattle.pddl_task.specs.declared.condition.Cond.{Cond}
 use Rattle.typing_names.specs.declared.domain.Tables.{Tables}
 use Rattle.typing_names.specs.declared.domain.DomainNames.{DomainNames}
-use Rattle.typing_names.specs.Scope.{Scope}
+use Rattle.typing_uses.specs.Scope.{Scope}
 use Rattle.typing_names.specs.declared.item.Item.{Item as Counted}
 use Rattle.typing_names.specs.declared.problem.ProblemNames.{ProblemNames}
 use Rattle.typing_names.specs.Domain.{DomainParts}

@@ -3,20 +3,18 @@ ghost use Rattle.std.specs.Prelude.{map};
 ghost use Rattle.pddl_form.specs.Judged.{both};
 ghost use Rattle.pddl_form.specs.Parts.{pair};
 ghost use Rattle.pddl_form.specs.Reading.{Reads};
-ghost use Rattle.typing_names.specs.Names.{scope_of};
-ghost use Rattle.typing_names.specs.Expressions.{conditions_named, effects_named};
+ghost use Rattle.typing_uses.specs.Names.{scope_of};
+ghost use Rattle.typing_uses.specs.Expressions.{conditions_named, effects_named};
 ghost use Rattle.typing_names.specs.Domain as domain;
 
-use crate::conditions::resolve_conditions;
 use crate::declared::{copy_text, resolve_params};
-use crate::effects::resolve_effects;
-use crate::scope::Names;
 use name_table::NameTable;
 use pddl_domain::ActionAst;
 use pddl_form::{FirstFault, add, pair};
 use pddl_task::{Action, Cond, Effect};
 use sqlite_items::Items;
 use std::alloc::{AllocError, Global};
+use typing_uses::{Names, resolve_conditions, resolve_effects};
 
 /// The types that the parameters allow, with the condition and the effect.
 type ActionParts = ((Items<Items<u32>>, Items<Cond>), Items<Effect>);

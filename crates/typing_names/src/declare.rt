@@ -4,7 +4,7 @@ ghost use Rattle.std.specs.Prelude.{◌≡◌, map, not, is_some, IfOk, OnOk};
 ghost use Rattle.name_table.specs.NameTable.{number_in, with_name};
 ghost use Rattle.pddl_form.specs.Reading.{Reads};
 ghost use Rattle.typing_names.specs.Faults.{tested};
-ghost use Rattle.typing_names.specs.Scope.{texts, sighted, again_behind, declared_again};
+ghost use Rattle.typing_uses.specs.Scope.{texts, sighted, again_behind, declared_again};
 ghost use Rattle.typing_names.specs.Domain.{names_of, heads_of};
 
 use crate::fault::{beside, note_again};

@@ -3,13 +3,12 @@
 ghost use Rattle.std.specs.Prelude.{◌≡◌, map, IfOk, OnOk};
 ghost use Rattle.pddl_form.specs.Judged.{each};
 ghost use Rattle.pddl_form.specs.Reading.{IsRead, Reads};
-ghost use Rattle.typing_names.specs.Scope.{texts, sighted, declared_again};
+ghost use Rattle.typing_uses.specs.Scope.{texts, sighted, declared_again};
 ghost use Rattle.typing_names.specs.Faults.{beside};
 ghost use Rattle.typing_names.specs.Domain as domain;
 
 use crate::declare::declare_typed;
 use crate::fault::beside;
-use crate::scope::{find_name, find_names};
 use name_table::NameTable;
 use pddl_domain::Head;
 use pddl_form::{FirstFault, Spot, Typed, add};
@@ -17,6 +16,7 @@ use pddl_task::{Object, Signature};
 use sexpr::Text;
 use sqlite_items::Items;
 use std::alloc::{AllocError, Global};
+use typing_uses::{find_name, find_names};
 
 pub fn copy_text(alloc: Global, text: &Text) -> Result<Text, AllocError>
     ensures { IfOk result (λ t. t ≡ text.now) }

@@ -13,7 +13,6 @@ use crate::actions::resolve_actions;
 use crate::declare::{declare_actions, declare_heads, declare_typed};
 use crate::declared::{resolve_objects, resolve_signatures};
 use crate::fault::beside;
-use crate::scope::Names;
 use crate::type_names::{resolve_types, type_table};
 use hierarchy::Hierarchy;
 use name_table::NameTable;
@@ -22,6 +21,7 @@ use pddl_form::{FirstFault, pair};
 use pddl_task::{Action, Object, Signature, TypeName};
 use sqlite_items::Items;
 use std::alloc::{AllocError, Global};
+use typing_uses::Names;
 
 /// The names of a domain's spaces.
 #[derive(Debug, Drop)]

@@ -5,22 +5,20 @@ ghost use Rattle.std.specs.Option.{option_map};
 ghost use Rattle.pddl_form.specs.Judged.{both, each};
 ghost use Rattle.pddl_form.specs.Parts.{pair};
 ghost use Rattle.pddl_form.specs.Reading.{IsRead, Reads};
-ghost use Rattle.typing_names.specs.Scope.{named, declared_again};
+ghost use Rattle.typing_uses.specs.Scope.{named, declared_again};
 ghost use Rattle.typing_names.specs.Faults.{tested};
-ghost use Rattle.typing_names.specs.Names.{scope_of};
+ghost use Rattle.typing_uses.specs.Names.{scope_of};
 ghost use Rattle.typing_names.specs.Tables.{scope_in, with_items, problem_parts_of};
-ghost use Rattle.typing_names.specs.Expressions.{conditions_named};
+ghost use Rattle.typing_uses.specs.Expressions.{conditions_named};
 ghost use Rattle.typing_names.specs.Domain.{names_of, objects_named, domain_scope};
 ghost use Rattle.typing_names.specs.Items.{item_of};
 ghost use Rattle.typing_names.specs.Problem as problem;
 
-use crate::conditions::resolve_conditions;
 use crate::declare::declare_typed;
 use crate::declared::resolve_objects;
 use crate::domain::Tables;
 use crate::fault::{beside, note_other_domain};
 use crate::item::Item;
-use crate::scope::{Names, find_name, find_names};
 use frac128::Frac;
 use name_table::NameTable;
 use pddl_domain::DomainAst;
@@ -29,6 +27,7 @@ use pddl_problem::{InitAst, ProblemAst};
 use pddl_task::{Cond, Object};
 use sqlite_items::Items;
 use std::alloc::{AllocError, Global};
+use typing_uses::{Names, find_name, find_names, resolve_conditions};
 
 /// What a problem declares.
 #[derive(Debug, Drop)]

@@ -3,7 +3,7 @@
 ghost use Rattle.std.specs.Prelude.{◌≡◌, ◌<◌, ◌^◌, List, ◌∷◌, map, length, replicate, IfOk, OnOk};
 ghost use Rattle.pddl_form.specs.declared.typed.Typed.{Typed};
 ghost use Rattle.pddl_task.specs.Task.{names_of, parents};
-ghost use Rattle.typing_names.specs.Scope.{texts, sighted};
+ghost use Rattle.typing_uses.specs.Scope.{texts, sighted};
 ghost use Rattle.typing_names.specs.Domain.{type_names, types_in};
 ghost use Rattle.typing_names.specs.TypeNames.{number_above, parent_in};
 

@@ -31,3 +31,6 @@ returns-clause-due g c = due _ _ _ planner lawful _ _ _ _ _ _ c.run.ensures
 
 pub returns-clause-written_well : goal.returns-clause-written_well
 returns-clause-written_well g c = status.written_well planner lawful _ _ _ _ _ _ _ _ _ c.run.ensures
+
+pub returns-clause-read_well : goal.returns-clause-read_well
+returns-clause-read_well g c = status.read_well planner lawful _ _ _ _ _ _ _ _ _ c.run.ensures

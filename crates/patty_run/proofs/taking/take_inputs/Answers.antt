@@ -1,17 +1,21 @@
 use Rattle.std.proofs.Common.{Option, List, ℕ, subst, ◌∙◌, arith}
 use Rattle.patty_run.specs.Files.{IsHeld}
 use Rattle.patty_run.proofs.TakingLaws.{held_next, stops_here}
+use Rattle.patty_run.proofs.CountLaws.{stop_behind}
 use Rattle.patty_run.proofs.taking.take_inputs.Goals as goal
 
 pub loop-named-preserved : goal.loop-named-preserved
 loop-named-preserved g c = record {
   held = held_next _ _ _ _ c.loop-named-test.true _ _ c.in-Ok.bytes c.loop-named.invariant.held
       (subst (λ (told : Option (List ℕ)). IsHeld told c.in-Ok.bytes.items) (c.loop-named.invariant.content _) c.in-Ok.ensures.taken) c.in-Ok-push.ensures.items;
-  later = λ of. omega (arith, c.loop-named.invariant.later of, c.in-Ok.ensures.later of);
+  counts = λ of. c.in-Ok.ensures.counts of ∙ c.loop-named.invariant.counts of;
   content = λ of. c.in-Ok.ensures.content of ∙ c.loop-named.invariant.content of;
 }
 
-pub returns-in-Err : goal.returns-in-Err
-returns-in-Err g c =
+pub returns-in-Err-clause-taken : goal.returns-in-Err-clause-taken
+returns-in-Err-clause-taken g c =
     stops_here _ _ _ _ c.loop-named-test.true (g.F.Shelf.content c.loop-named.files) (g.F.Shelf.faults c.args.files.now) (g.F.Shelf.faults c.loop-named.files) (g.F.Shelf.faults c.take_input.new.files)
-    _ c.in-Err.stop c.loop-named.invariant.held c.loop-named.invariant.content c.loop-named.invariant.later c.in-Err.ensures.taken
+    _ c.in-Err.stop c.loop-named.invariant.held c.loop-named.invariant.content (λ of. omega (arith, c.loop-named.invariant.counts of)) c.in-Err.ensures.taken
+
+pub returns-in-Err-clause-counts : goal.returns-in-Err-clause-counts
+returns-in-Err-clause-counts g c = stop_behind _ _ _ c.in-Err.stop c.loop-named.invariant.counts c.in-Err.ensures.counts

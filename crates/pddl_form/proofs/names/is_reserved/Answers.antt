@@ -1,6 +1,6 @@
 use Rattle.std.proofs.Common.{◌∙◌, ap}
 use Rattle.pddl_form.specs.Names.{is_reserved, reserved}
-use Rattle.pddl_form.specs.Condition.{is_one_of}
+use Rattle.pddl_form.specs.Names.{is_one_of}
 use Rattle.pddl_form.proofs.Keywords.{finds_any}
 use Rattle.pddl_form.proofs.names.is_reserved.Goals as goal
 

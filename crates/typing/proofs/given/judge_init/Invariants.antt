@@ -1,6 +1,6 @@
 use Rattle.typing.specs.Types.{item_faults}
 use Rattle.typing.specs.Known.{declared_of}
-use Rattle.typing.proofs.Noted.{AreNoted}
+use Rattle.typing_linear.proofs.Noted.{AreNoted}
 use Rattle.typing.proofs.given.judge_init.Given as goal
 
 abbrev pub invariant-loop-item : goal.invariant-loop-item

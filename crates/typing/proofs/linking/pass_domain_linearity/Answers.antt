@@ -1,6 +1,6 @@
 use Rattle.std.proofs.Common.{◌∙◌, ap}
 use Rattle.sexpr.specs.declared.fault.Source.TheVariants as source
-use Rattle.typing.specs.Linear.{bent_domain}
+use Rattle.typing_linear.specs.Linear.{bent_domain}
 use Rattle.typing.proofs.Passes.{test_passes, least_at}
 use Rattle.typing.proofs.linking.pass_domain_linearity.Goals as goal
 

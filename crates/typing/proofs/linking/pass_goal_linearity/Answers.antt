@@ -1,6 +1,6 @@
 use Rattle.std.proofs.Common.{◌∙◌}
 use Rattle.sexpr.specs.declared.fault.Source.TheVariants as source
-use Rattle.typing.specs.Linear.{bent_goal}
+use Rattle.typing_linear.specs.Linear.{bent_goal}
 use Rattle.typing.proofs.Passes.{test_passes, least_at, goal_faults_are}
 use Rattle.typing.proofs.linking.pass_goal_linearity.Goals as goal
 

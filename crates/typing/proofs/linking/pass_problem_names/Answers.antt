@@ -1,8 +1,8 @@
-use Rattle.std.proofs.Common.{refl, Ok, Err}
+use Rattle.std.proofs.Common.{Err}
 use Rattle.sexpr.specs.declared.fault.Source.TheVariants as source
 use Rattle.typing_names.specs.Problem.{problem_names}
 use Rattle.typing_names.specs.Tables.{problem_parts_of}
-use Rattle.typing.proofs.Passes.{names_outcome, names_made, names_refused}
+use Rattle.typing.proofs.Passes.{names_outcome, names_refused}
 use Rattle.typing.proofs.linking.pass_problem_names.Goals as goal
 
 pub conclude-requires : goal.conclude-requires

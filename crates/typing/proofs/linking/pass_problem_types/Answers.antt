@@ -1,4 +1,4 @@
-use Rattle.std.proofs.Common.{◌∙◌, ap, List, length, ℕ}
+use Rattle.std.proofs.Common.{◌∙◌, ap, length}
 use Rattle.sexpr.specs.declared.fault.Source.TheVariants as source
 use Rattle.typing_names.specs.Tables.{parts_of, problem_parts_of}
 use Rattle.typing.specs.Types.{Declared, problem_types}

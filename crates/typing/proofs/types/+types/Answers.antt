@@ -1,4 +1,4 @@
-use Rattle.typing.proofs.Noted.{one_more_noted}
+use Rattle.typing_linear.proofs.Noted.{one_more_noted}
 use Rattle.typing.proofs.TypeLaws.{number_judged, call_judged, operation_judged}
 use Rattle.typing.proofs.types.+types.Goals as goal
 

@@ -1,6 +1,6 @@
 use Rattle.typing.specs.Types.{expression_faults}
 use Rattle.typing.specs.Known.{declared_of}
-use Rattle.typing.proofs.Noted.{AreNoted}
+use Rattle.typing_linear.proofs.Noted.{AreNoted}
 use Rattle.typing.proofs.types.+types.Given as goal
 
 abbrev pub invariant-judge_expressions-loop-expr : goal.invariant-judge_expressions-loop-expr

@@ -1,6 +1,6 @@
 use Rattle.typing.specs.Types.{condition_faults}
 use Rattle.typing.specs.Known.{declared_of}
-use Rattle.typing.proofs.Noted.{AreNoted}
+use Rattle.typing_linear.proofs.Noted.{AreNoted}
 use Rattle.typing.proofs.types.judge_conditions.Given as goal
 
 abbrev pub invariant-loop-condition : goal.invariant-loop-condition

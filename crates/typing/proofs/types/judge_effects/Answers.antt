@@ -1,4 +1,4 @@
-use Rattle.typing.proofs.Noted.{none_noted, one_more_noted, all_noted}
+use Rattle.typing_linear.proofs.Noted.{none_noted, one_more_noted, all_noted}
 use Rattle.typing.proofs.types.judge_effects.Goals as goal
 
 pub loop-effect-init : goal.loop-effect-init

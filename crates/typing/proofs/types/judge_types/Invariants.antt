@@ -1,5 +1,5 @@
 use Rattle.typing.specs.Types.{type_faults}
-use Rattle.typing.proofs.Noted.{AreNoted}
+use Rattle.typing_linear.proofs.Noted.{AreNoted}
 use Rattle.typing.proofs.types.judge_types.Given as goal
 
 abbrev pub invariant-loop-one : goal.invariant-loop-one

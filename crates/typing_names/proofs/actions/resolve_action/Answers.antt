@@ -1,4 +1,4 @@
-use Rattle.typing_names.specs.Names.{scope_of}
+use Rattle.typing_uses.specs.Names.{scope_of}
 use Rattle.typing_names.proofs.DomainLaws.{action_none, action_some}
 use Rattle.typing_names.proofs.actions.resolve_action.Goals as goal
 

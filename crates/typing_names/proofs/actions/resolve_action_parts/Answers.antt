@@ -1,5 +1,5 @@
 use Rattle.std.proofs.Common.{refl}
-use Rattle.typing_names.specs.Names.{scope_of}
+use Rattle.typing_uses.specs.Names.{scope_of}
 use Rattle.typing_names.proofs.DomainLaws.{action_parts}
 use Rattle.typing_names.proofs.actions.resolve_action_parts.Goals as goal
 

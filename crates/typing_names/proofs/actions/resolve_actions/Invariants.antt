@@ -1,6 +1,6 @@
 use Rattle.pddl_form.proofs.Loops.{AreRead}
 use Rattle.typing_names.specs.Domain.{action_named}
-use Rattle.typing_names.specs.Names.{scope_of}
+use Rattle.typing_uses.specs.Names.{scope_of}
 use Rattle.typing_names.proofs.actions.resolve_actions.Given as goal
 
 abbrev pub invariant-loop-action : goal.invariant-loop-action

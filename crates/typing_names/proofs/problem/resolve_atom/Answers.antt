@@ -1,5 +1,5 @@
 use Rattle.std.proofs.Common.{refl}
-use Rattle.typing_names.proofs.ExpressionLaws.{paired_none, paired_some}
+use Rattle.typing_uses.proofs.ExpressionLaws.{paired_none, paired_some}
 use Rattle.typing_names.proofs.problem.resolve_atom.Goals as goal
 
 pub returns-in_default : goal.returns-in_default

@@ -1,5 +1,5 @@
 use Rattle.pddl_form.proofs.Loops.{all_read}
-use Rattle.typing_names.specs.Names.{scope_of}
+use Rattle.typing_uses.specs.Names.{scope_of}
 use Rattle.typing_names.proofs.ProblemLaws.{no_item, one_more_item}
 use Rattle.typing_names.proofs.problem.resolve_items.Goals as goal
 

@@ -1,7 +1,7 @@
 use Rattle.std.proofs.Common.{map}
 use Rattle.std.specs.Option.{option_map}
 use Rattle.pddl_form.proofs.Loops.{AreRead}
-use Rattle.typing_names.specs.Names.{scope_of}
+use Rattle.typing_uses.specs.Names.{scope_of}
 use Rattle.typing_names.specs.Problem.{item_named}
 use Rattle.typing_names.specs.Items.{item_of}
 use Rattle.typing_names.proofs.problem.resolve_items.Given as goal

@@ -1,5 +1,5 @@
 use Rattle.std.proofs.Common.{◌≡◌, take}
-use Rattle.typing_names.specs.Scope.{texts, sighted}
+use Rattle.typing_uses.specs.Scope.{texts, sighted}
 use Rattle.typing_names.proofs.type_names.add_names.Given as goal
 
 abbrev pub invariant-loop-spot : goal.invariant-loop-spot

@@ -1,0 +1,5 @@
+pub mod Keywords
+pub mod Expressions
+pub mod Conditions
+pub mod ConditionLaws
+pub mod UnreadNot

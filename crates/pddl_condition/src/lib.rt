@@ -1,0 +1,12 @@
+//! Expressions and conditions, each read from a tree with exact faults: what actions and goals are made of.
+//!
+//! Begin with `read_expression`; `read_condition` stands on it.
+#![tactic(auto)]
+
+mod condition;
+mod expression;
+mod laws;
+
+pub use condition::{CondAst, condition_heads_rise, note_unread, read_condition, read_undone};
+pub use expression::{ExprAst, operators_rise, read_expression, read_number};
+pub use laws::{one_condition, one_expression, unread_not_is_one_fault};

@@ -1,6 +1,0 @@
-use Rattle.std.proofs.Common.{rules, sym, ◌∙◌}
-use Rattle.pddl_form.proofs.Keywords.{no_operator_read}
-use Rattle.pddl_form.proofs.expression.find_operator.Goals as goal
-
-pub returns-in-None-rows : goal.returns-in-None-rows
-returns-in-None-rows c = c.other_operator.ensures ∙ sym (no_operator_read c.args.text.now c.as_bytes.result.now c.as_bytes.ensures.value (search rules))

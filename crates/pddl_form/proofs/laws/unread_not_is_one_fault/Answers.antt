@@ -1,5 +1,0 @@
-use Rattle.pddl_form.proofs.UnreadNot.{negated_alone, undone_alone}
-use Rattle.pddl_form.proofs.laws.unread_not_is_one_fault.Goals as goal
-
-pub returns : goal.returns
-returns c = record { of_conditions = negated_alone; of_atoms = undone_alone }

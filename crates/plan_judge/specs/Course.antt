@@ -1,0 +1,40 @@
+-- How far a plan comes, by runs of instances: to the first step that fails, or to the goal's test behind its last part.
+use Rattle.std.specs.Prelude.{◌≡◌, ℕ, ◌+◌, ◌<◌, Bool, true, false, List, ◌∷◌, ◌++◌, length, replicate, Result, Ok, Err}
+use Rattle.frac128.specs.declared.operations.Wide.{Wide}
+use Rattle.pddl_task.specs.declared.parts.TaskParts.{TaskParts}
+use Rattle.plan_step.specs.State.{PlanState, initial}
+use Rattle.plan_step.specs.Step.{step_from}
+use Rattle.plan_step.specs.Conditions.{goal_met}
+use Rattle.plan_step.specs.Meaning.{Run}
+use Rattle.plan_text.specs.declared.plan.Part.{Part}
+use Rattle.plan_judge.specs.declared.outcome.PartFail.{PartFail}
+use Rattle.plan_judge.specs.declared.outcome.Outcome.{Outcome}
+use Rattle.plan_judge.specs.declared.outcome.Outcome.TheVariants as outcome
+use Rattle.plan_judge.specs.Written.{written_out}
+
+-- The parts in front of one have a run, with some of its repetitions behind them, and the next step fails. Parts and
+-- repetitions are numbered from 1.
+pub record IsFirstFailure (task : TaskParts) (plan : List Part) (e : PartFail) : Type 0 where
+  pub front : List Part
+  pub part : Part
+  pub behind : List Part
+  pub split : plan ≡ front ++ part ∷ behind
+  pub number : e.part ≡ length front + 1
+  pub made : ℕ
+  pub within : made < part.count
+  pub repetition : e.fail.at ≡ made + 1
+  pub reached : PlanState
+  pub run : Run task (initial task) (written_out front ++ replicate made part.by) reached
+  pub fails : step_from task reached part.by ≡ Err e.fail.fail
+
+-- the plan written out has a run, and the goal's test behind it answers this
+pub record IsTested (task : TaskParts) (plan : List Part) (answer : Result Bool Wide) : Type 0 where
+  pub reached : PlanState
+  pub run : Run task (initial task) (written_out plan) reached
+  pub tested : goal_met reached task.goal ≡ answer
+
+abbrev pub ComesTo : TaskParts → List Part → Outcome → Type 0
+ComesTo task plan outcome.Valid = IsTested task plan (Ok true)
+ComesTo task plan (outcome.PartFails e) = IsFirstFailure task plan e
+ComesTo task plan outcome.GoalFails = IsTested task plan (Ok false)
+ComesTo task plan (outcome.GoalWide w) = IsTested task plan (Err w)

@@ -1,6 +1,0 @@
-use Rattle.std.proofs.Common.{take}
-use Rattle.typing.specs.Reads.{AreChanging}
-use Rattle.typing.proofs.linear.Changing.new.Given as goal
-
-abbrev pub invariant-loop-action : goal.invariant-loop-action
-invariant-loop-action l = AreChanging (take l.action-index l.actions) l.names

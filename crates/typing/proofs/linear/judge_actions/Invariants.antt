@@ -1,6 +1,0 @@
-use Rattle.typing.specs.Linear.{bent_action}
-use Rattle.typing.proofs.Noted.{AreNoted}
-use Rattle.typing.proofs.linear.judge_actions.Given as goal
-
-abbrev pub invariant-loop-action : goal.invariant-loop-action
-invariant-loop-action l = AreNoted (bent_action l.changing) l.actions l.action-index l.initial.faults l.faults

@@ -1,6 +1,0 @@
-use Rattle.typing.specs.Linear.{bent_condition}
-use Rattle.typing.proofs.Noted.{AreNoted}
-use Rattle.typing.proofs.linear.judge_conditions.Given as goal
-
-abbrev pub invariant-loop-condition : goal.invariant-loop-condition
-invariant-loop-condition l = AreNoted (bent_condition l.changing) l.conditions l.condition-index l.initial.faults l.faults

@@ -1,6 +1,0 @@
-use Rattle.typing.specs.Linear.{bent_effect}
-use Rattle.typing.proofs.Noted.{AreNoted}
-use Rattle.typing.proofs.linear.judge_effects.Given as goal
-
-abbrev pub invariant-loop-effect : goal.invariant-loop-effect
-invariant-loop-effect l = AreNoted (bent_effect l.changing) l.effects l.effect-index l.initial.faults l.faults

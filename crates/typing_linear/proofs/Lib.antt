@@ -1,0 +1,3 @@
+pub mod Noted
+pub mod Changed
+pub mod Reading

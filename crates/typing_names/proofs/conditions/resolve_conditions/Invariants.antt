@@ -1,7 +1,0 @@
-use Rattle.pddl_form.proofs.Loops.{AreRead}
-use Rattle.typing_names.specs.Expressions.{condition_named}
-use Rattle.typing_names.specs.Names.{scope_of}
-use Rattle.typing_names.proofs.conditions.resolve_conditions.Given as goal
-
-abbrev pub invariant-loop-cond : goal.invariant-loop-cond
-invariant-loop-cond l = AreRead (condition_named (scope_of l.names)) l.conds l.cond-index l.initial.faults l.faults l.found

@@ -1,7 +1,0 @@
--- The tables of names that the passes look names up in.
-use Rattle.typing_names.specs.declared.scope.Names.{Names}
-use Rattle.typing_names.specs.Scope.{Scope}
-
--- the names that the tables hold
-abbrev pub scope_of : Names → Scope
-scope_of names = record { types = names.types.now; objects = names.objects.now; preds = names.preds.now; funcs = names.funcs.now; params = names.params.now }

@@ -1,0 +1,5 @@
+use Rattle.pddl_form.proofs.Loops.{read_both, read_as}
+use Rattle.typing_uses.proofs.effects.resolve_change_parts.Goals as goal
+
+pub returns : goal.returns
+returns c = read_as _ _ _ _ _ (read_both _ _ _ _ _ _ _ _ c.in_ok-call.ensures c.in_ok-by.ensures) c.pair.ensures
