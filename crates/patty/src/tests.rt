@@ -114,10 +114,6 @@ fn rows(rt: HostRuntime) -> Result<(), Fail> {
         },
         run_of(NUMERIC, VALUE, 1, REFUTED),
         Row {
-            sink_fails: 2,
-            ..run_of(DOMAIN, TRUE, 6, "block 0\n")
-        },
-        Row {
             shelf_fails: 1,
             ..run_of(DOMAIN, TRUE, 5, "fault read domain\n")
         },
@@ -130,6 +126,31 @@ fn rows(rt: HostRuntime) -> Result<(), Fail> {
         let (status, output) = outcome(rt.alloc(), row)?;
         assert_eq!(rt; status, row.status, "{}", row.problem);
         assert_eq!(rt; output.as_slice(), row.output.as_bytes());
+    }
+    Ok(())
+}
+
+/// The words, the call of the sink that fails, the status and what is written.
+const WRITES: &[([&str; 4], u64, u8, &str)] = &[
+    (RIGHT, 1, 6, ""),
+    (RIGHT, 2, 6, "block 0\n"),
+    (RIGHT, 3, 6, "block 0\nplan 0\n"),
+    (RIGHT, 4, 0, PLAN),
+    (OTHER_OPTION, 1, 6, ""),
+    (OTHER_OPTION, 2, 4, USAGE),
+];
+
+#[test]
+fn failing_writes(rt: HostRuntime) -> Result<(), Fail> {
+    for (words, sink_fails, wanted, written) in WRITES {
+        let row = Row {
+            words: *words,
+            sink_fails: *sink_fails,
+            ..run_of(DOMAIN, TRUE, *wanted, written)
+        };
+        let (status, output) = outcome(rt.alloc(), &row)?;
+        assert_eq!(rt; output.as_slice(), written.as_bytes(), "{sink_fails}");
+        assert_eq!(rt; status, *wanted, "{sink_fails}");
     }
     Ok(())
 }
