@@ -1,6 +1,6 @@
 //! Judgements of plans, and steps of instances that no plan's text spells.
 use crate::judgement_texts::{DOMAIN, INSTANCES, PROBLEM, ROWS};
-use crate::tasks::{bytes_of, check_answer, part, plan_of, put_fail, put_text, put_wide, task_of};
+use crate::tasks::{bytes_of, check_answer, enclosed, part, plan_of, put_fail, put_wide, task_of};
 use pddl_task::{Instance, Task};
 use plan_judge::{Outcome, PartFail, judge_plan};
 use plan_step::{State, StepFail, step};
@@ -10,17 +10,9 @@ use std::alloc::{AllocError, Global};
 use std::process::Abort;
 use std::test::Fail;
 
-fn problem_text(alloc: Global, goal: &str) -> Result<Vec<u8>, AllocError> {
-    let mut text = Vec::new(alloc);
-    put_text(&mut text, PROBLEM[0])?;
-    put_text(&mut text, goal)?;
-    put_text(&mut text, PROBLEM[1])?;
-    Ok(text)
-}
-
 fn task_with(rt: &impl Abort, alloc: Global, goal: &str) -> Result<Task, Fail> {
     let domain = bytes_of(alloc, DOMAIN)?;
-    let problem = problem_text(alloc, goal)?;
+    let problem = enclosed(alloc, PROBLEM[0], goal, PROBLEM[1])?;
     task_of(rt, alloc, &domain, &problem)
 }
 

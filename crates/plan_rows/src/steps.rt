@@ -1,6 +1,6 @@
 //! Steps and repetitions.
 use crate::step_texts::{DOMAIN, PROBLEM, REPEATS, STEPS};
-use crate::tasks::{check_answer, part, put_fail, put_text, task_of};
+use crate::tasks::{check_answer, enclosed, part, put_fail, put_text, task_of};
 use frac128::Frac;
 use pddl_task::{Instance, Task};
 use plan_step::{RepeatFail, State, StepFail, repeat, step};
@@ -11,28 +11,16 @@ use std::test::Fail;
 
 /// A domain of one action `a` with this condition and effect.
 fn domain_text(alloc: Global, conds: &str, effs: &str) -> Result<Vec<u8>, AllocError> {
-    let mut text = Vec::new(alloc);
-    put_text(&mut text, DOMAIN[0])?;
-    put_text(&mut text, conds)?;
-    put_text(&mut text, DOMAIN[1])?;
+    let mut text = enclosed(alloc, DOMAIN[0], conds, DOMAIN[1])?;
     put_text(&mut text, effs)?;
     put_text(&mut text, DOMAIN[2])?;
-    Ok(text)
-}
-
-/// A problem with this initial state.
-fn problem_text(alloc: Global, init: &str) -> Result<Vec<u8>, AllocError> {
-    let mut text = Vec::new(alloc);
-    put_text(&mut text, PROBLEM[0])?;
-    put_text(&mut text, init)?;
-    put_text(&mut text, PROBLEM[1])?;
     Ok(text)
 }
 
 /// The task of a row.
 fn row_task(rt: &impl Abort, alloc: Global, row: &str) -> Result<Task, Fail> {
     let domain = domain_text(alloc, part(row, 1)?, part(row, 2)?)?;
-    let problem = problem_text(alloc, part(row, 0)?)?;
+    let problem = enclosed(alloc, PROBLEM[0], part(row, 0)?, PROBLEM[1])?;
     task_of(rt, alloc, &domain, &problem)
 }
 

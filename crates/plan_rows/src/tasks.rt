@@ -44,6 +44,14 @@ pub fn bytes_of(alloc: Global, text: &str) -> Result<Vec<u8>, AllocError> {
     Ok(bytes)
 }
 
+/// The same with what stands around the text.
+pub fn enclosed(alloc: Global, front: &str, text: &str, back: &str) -> Result<Vec<u8>, AllocError> {
+    let mut bytes = bytes_of(alloc, front)?;
+    put_text(&mut bytes, text)?;
+    put_text(&mut bytes, back)?;
+    Ok(bytes)
+}
+
 /// The part of a row with this number, from 0, behind as many `;`.
 pub fn part(row: &str, at: usize) -> Result<&str, Fail> {
     Ok(row.split(';').nth(at).ok_or("no part")?)
