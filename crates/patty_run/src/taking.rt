@@ -37,6 +37,7 @@ pub fn take_inputs<F: Shelf>(
 ) -> Result<Vec<Vec<u8>>, Stop>
     ensures taken { AreTaken (F.content files.old) (F.faults files.old) (F.faults files.new) (map file_of inputs.now) result }
     ensures counts { KeepsCounts (F.faults files.old) (F.faults files.new) result }
+    ensures content { (of : List ℕ) → F.content files.new of ≡ F.content files.old of }
 {
     let mut all = Vec::new(alloc);
     for named in inputs {

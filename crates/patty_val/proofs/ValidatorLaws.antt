@@ -14,7 +14,7 @@ use Rattle.plan_judge.specs.declared.outcome.Outcome.{Outcome}
 use Rattle.plan_judge.specs.declared.outcome.Outcome.TheVariants as outcome
 use Rattle.plan_judge.specs.Outcome.{outcome_of}
 use Rattle.plan_judge.specs.Written.{IsValid}
-use Rattle.plan_judge.specs.Laws.{IsRefutal, IsPastFail, IsPast, MeansFail, Means}
+use Rattle.plan_judge.specs.Laws.{IsRefutal, FailPassesBits, PassesBits, MeansFail, Means}
 use Rattle.patty_run.specs.Inputs.{InputFile}
 use Rattle.patty_run.specs.Files.{AreHeld}
 use Rattle.patty_run.specs.Printed.{joined}
@@ -118,7 +118,7 @@ rejected task plan (outcome.PartFails e) is means = rejected_failure task plan e
 rejected task plan outcome.GoalFails is means = (tt, means)
 rejected task plan (outcome.GoalWide w) is means = absurd (omega (arith, is))
 
-wide_failure : (task : TaskParts) (plan : List Part) (e : StepFail) → failure_status e ≡ 2 → MeansFail task plan e → IsPastFail e
+wide_failure : (task : TaskParts) (plan : List Part) (e : StepFail) → failure_status e ≡ 2 → MeansFail task plan e → FailPassesBits e
 wide_failure task plan fail.Arity is means = absurd (omega (arith, is))
 wide_failure task plan fail.ArgType is means = absurd (omega (arith, is))
 wide_failure task plan (fail.Condition i) is means = absurd (omega (arith, is))
@@ -127,7 +127,7 @@ wide_failure task plan (fail.Clash i) is means = absurd (omega (arith, is))
 wide_failure task plan (fail.Wide w) is means = means
 wide_failure task plan fail.Memory is means = absurd means
 
-undecided : (task : TaskParts) (plan : List Part) (o : Outcome) → outcome_status o ≡ 2 → Means task plan o → IsPast o
+undecided : (task : TaskParts) (plan : List Part) (o : Outcome) → outcome_status o ≡ 2 → Means task plan o → PassesBits o
 undecided task plan outcome.Valid is means = absurd (omega (arith, is))
 undecided task plan (outcome.PartFails e) is means = wide_failure task plan e.fail.fail is means
 undecided task plan outcome.GoalFails is means = absurd (omega (arith, is))

@@ -11,7 +11,7 @@ use Rattle.plan_judge.specs.declared.outcome.Outcome.TheVariants as outcome
 use Rattle.plan_judge.specs.Outcome.{outcome_of}
 use Rattle.plan_judge.specs.Course.{ComesTo}
 use Rattle.plan_judge.specs.Written.{IsValid}
-use Rattle.plan_judge.specs.Laws.{SaysInvalid, IsPast, Means}
+use Rattle.plan_judge.specs.Laws.{SaysInvalid, PassesBits, Means}
 use Rattle.patty_run.specs.Inputs.{InputFile}
 use Rattle.patty_run.specs.Files.{AreHeld}
 use Rattle.patty_run.specs.Tasks.{IsTask}
@@ -60,7 +60,7 @@ abbrev pub IsRejected : TaskParts → List Part → Outcome → Type 0
 IsRejected task plan o = SaysInvalid o × (IsValid task plan → ⊥)
 
 abbrev pub IsUndecided : TaskParts → List Part → Outcome → Type 0
-IsUndecided task plan o = IsPast o
+IsUndecided task plan o = PassesBits o
 
 module _ (content : List ℕ → Option (List ℕ)) (named : Option (List InputFile)) (old new : Option (List ℕ)) where
   -- The words are right, the files are read; the texts have a task and spell a plan; the plan has an outcome of which this

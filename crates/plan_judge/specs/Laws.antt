@@ -46,17 +46,17 @@ Means task plan (outcome.GoalWide w) = Passes w.op w.x w.y
 
 -- ---- the operation of an outcome passes 128 bits
 
-abbrev pub IsPastFail : StepFail → Type 0
-IsPastFail (fail.Wide w) = Passes w.op w.x w.y
-IsPastFail fail.Arity = ⊥
-IsPastFail fail.ArgType = ⊥
-IsPastFail (fail.Condition i) = ⊥
-IsPastFail (fail.NoValue i) = ⊥
-IsPastFail (fail.Clash i) = ⊥
-IsPastFail fail.Memory = ⊥
+abbrev pub FailPassesBits : StepFail → Type 0
+FailPassesBits (fail.Wide w) = Passes w.op w.x w.y
+FailPassesBits fail.Arity = ⊥
+FailPassesBits fail.ArgType = ⊥
+FailPassesBits (fail.Condition i) = ⊥
+FailPassesBits (fail.NoValue i) = ⊥
+FailPassesBits (fail.Clash i) = ⊥
+FailPassesBits fail.Memory = ⊥
 
-abbrev pub IsPast : Outcome → Type 0
-IsPast outcome.Valid = ⊥
-IsPast (outcome.PartFails e) = IsPastFail e.fail.fail
-IsPast outcome.GoalFails = ⊥
-IsPast (outcome.GoalWide w) = Passes w.op w.x w.y
+abbrev pub PassesBits : Outcome → Type 0
+PassesBits outcome.Valid = ⊥
+PassesBits (outcome.PartFails e) = FailPassesBits e.fail.fail
+PassesBits outcome.GoalFails = ⊥
+PassesBits (outcome.GoalWide w) = Passes w.op w.x w.y

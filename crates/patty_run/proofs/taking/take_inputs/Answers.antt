@@ -19,3 +19,6 @@ returns-in-Err-clause-taken g c =
 
 pub returns-in-Err-clause-counts : goal.returns-in-Err-clause-counts
 returns-in-Err-clause-counts g c = stop_behind _ _ _ c.in-Err.stop c.loop-named.invariant.counts c.in-Err.ensures.counts
+
+pub returns-in-Err-clause-content : goal.returns-in-Err-clause-content
+returns-in-Err-clause-content g c = λ of. c.in-Err.ensures.content of ∙ c.loop-named.invariant.content of
