@@ -12,7 +12,7 @@ use hierarchy::Hierarchy;
 use name_table::NameTable;
 use pddl_domain::DomainAst;
 use pddl_problem::ProblemAst;
-use pddl_task::{Fact, Given, Task, TaskParts};
+use pddl_task::{Fact, Given, Object, Task, TaskParts};
 use sexpr::TextRefusal;
 use sqlite_items::Items;
 use std::alloc::{AllocError, Global};
@@ -91,7 +91,26 @@ fn is_countable(parts: &TaskParts) -> bool
         && parts.funcs.len() <= most
 }
 
-/// The parts, whose facts and values are those of the items.
+/// The facts and the values at the start.
+fn start(alloc: Global, items: &[Item]) -> Result<(Items<Fact>, Items<Given>), AllocError>
+    ensures facts { IfOk result (λ start. start.0 ≡ facts_in (items_of items.now)) }
+    ensures values { IfOk result (λ start. start.1 ≡ values_in (items_of items.now)) }
+{
+    let facts = facts(alloc, items)?;
+    let values = values(alloc, items)?;
+    Ok((facts, values))
+}
+
+/// What a domain declares, with more objects behind its own.
+fn with_objects(made: DomainNames, others: Items<Object>) -> Result<DomainNames, AllocError>
+    ensures { IfOk result (λ all. all ≡ record made { objects = made.objects ++ others }) }
+{
+    let mut all = made;
+    all.objects.append(others)?;
+    Ok(all)
+}
+
+/// The parts, whose facts and values are those of the items. What may want memory is done while few things are held.
 fn join_parts(
     alloc: Global,
     made: DomainNames,
@@ -101,23 +120,21 @@ fn join_parts(
     ensures names { IfOk result (λ t. t.1 ≡ made.tables.types) }
     ensures above { IfOk result (λ t. t.2 ≡ made.hierarchy) }
 {
-    let facts = facts(alloc, more.items.as_slice())?;
-    let values = values(alloc, more.items.as_slice())?;
+    let ProblemNames {
+        objects: others,
+        items,
+        goal,
+    } = more;
+    let (facts, values) = start(alloc, items.as_slice())?;
     let DomainNames {
         types,
-        mut objects,
+        objects,
         preds,
         funcs,
         actions,
         tables,
         hierarchy,
-    } = made;
-    let ProblemNames {
-        objects: others,
-        goal,
-        ..
-    } = more;
-    objects.append(others)?;
+    } = with_objects(made, others)?;
     let parts = TaskParts {
         types,
         objects,

@@ -34,37 +34,41 @@ again_read seen spots old new x none h = subst (λ (names : List (List ℕ)). Is
 pub distinct_names : (seen table : List (List ℕ)) (spots : List Spot) → seen ≡ [] → table ≡ sighted seen (texts spots) → table ≡ distinct (texts spots)
 distinct_names seen table spots none is = is ∙ ap (λ (names : List (List ℕ)). sighted names (texts spots)) none
 
-pub domain_tested : (d : DomainAst) (types consts : List Typed) (preds funcs : List Head) (actions : List ActionAst) (a b c e f : List (List ℕ)) (old m n p q new : Option Fault)
-    (x y z u v r s t w : Option (Unit {0}))
-    → types ≡ d.types → consts ≡ d.constants → preds ≡ d.preds → funcs ≡ d.funcs → actions ≡ d.actions
-    → a ≡ [] → IsRead (tested (declared_again a (names_of types))) old m x
-    → b ≡ [] → IsRead (tested (declared_again b (names_of consts))) m n y
-    → c ≡ [] → IsRead (tested (declared_again c (heads_of preds))) n p z
-    → e ≡ [] → IsRead (tested (declared_again e (heads_of funcs))) p q u
-    → f ≡ [] → IsRead (tested (declared_again f (map (λ g. g.name) actions))) q new v
-    → r ≡ option_both second u v → s ≡ option_both second z r → t ≡ option_both second y s → w ≡ option_both second x t
-    → IsRead (tested (domain_again d)) old new w
-domain_tested d types consts preds funcs actions a b c e f old m n p q new x y z u v r s t w same_types same_consts same_preds same_funcs same_actions no_a h no_b i no_c j no_e k no_f l is_r is_s is_t is_w =
-    let at_types : IsRead (tested (declared_again [] (names_of d.types))) old m x = subst (λ (ts : List Typed). IsRead (tested (declared_again [] (names_of ts))) old m x) same_types (again_read a (names_of types) old m x no_a h) in
-    let at_consts : IsRead (tested (declared_again [] (names_of d.constants))) m n y = subst (λ (ts : List Typed). IsRead (tested (declared_again [] (names_of ts))) m n y) same_consts (again_read b (names_of consts) m n y no_b i) in
-    let at_preds : IsRead (tested (declared_again [] (heads_of d.preds))) n p z = subst (λ (hs : List Head). IsRead (tested (declared_again [] (heads_of hs))) n p z) same_preds (again_read c (heads_of preds) n p z no_c j) in
-    let at_funcs : IsRead (tested (declared_again [] (heads_of d.funcs))) p q u = subst (λ (hs : List Head). IsRead (tested (declared_again [] (heads_of hs))) p q u) same_funcs (again_read e (heads_of funcs) p q u no_e k) in
-    let at_actions : IsRead (tested (declared_again [] (map (λ g. g.name) d.actions))) q new v =
-    subst (λ (gs : List ActionAst). IsRead (tested (declared_again [] (map (λ g. g.name) gs))) q new v) same_actions (again_read f (map (λ g. g.name) actions) q new v no_f l) in
-    read_tests (declared_again [] (names_of d.types)) _ old m new x t w at_types
-    (read_tests (declared_again [] (names_of d.constants)) _ m n new y s t at_consts
-    (read_tests (declared_again [] (heads_of d.preds)) _ n p new z r s at_preds
-    (read_tests (declared_again [] (heads_of d.funcs)) _ p q new u v r at_funcs at_actions is_r) is_s) is_t) is_w
+pub functions_tested : (d : DomainAst) (funcs : List Head) (actions : List ActionAst) (old mid new : Option Fault) (x y z : Option (Unit {0}))
+    → funcs ≡ d.funcs → actions ≡ d.actions → IsRead (tested (declared_again [] (heads_of funcs))) old mid x → IsRead (tested (declared_again [] (map (λ a. a.name) actions))) mid new y
+    → z ≡ option_both second x y → IsRead (tested (declared_again [] (heads_of d.funcs) ++ declared_again [] (map (λ a. a.name) d.actions))) old new z
+functions_tested d funcs actions old mid new x y z same_funcs same_actions h k is =
+    read_tests (declared_again [] (heads_of d.funcs)) (declared_again [] (map (λ a. a.name) d.actions)) old mid new x y z
+    (subst (λ (hs : List Head). IsRead (tested (declared_again [] (heads_of hs))) old mid x) same_funcs h)
+    (subst (λ (gs : List ActionAst). IsRead (tested (declared_again [] (map (λ a. a.name) gs))) mid new y) same_actions k) is
 
-pub domain_tables : (d : DomainAst) (types consts : List Typed) (preds funcs : List Head) (t a b c o p f : List (List ℕ))
-    → types ≡ d.types → consts ≡ d.constants → preds ≡ d.preds → funcs ≡ d.funcs
-    → t ≡ type_names types → a ≡ [] → o ≡ sighted a (texts (names_of consts)) → b ≡ [] → p ≡ sighted b (texts (heads_of preds)) → c ≡ [] → f ≡ sighted c (texts (heads_of funcs))
+pub signatures_tested : (d : DomainAst) (preds : List Head) (old mid new : Option Fault) (x y z : Option (Unit {0}))
+    → preds ≡ d.preds → IsRead (tested (declared_again [] (heads_of preds))) old mid x → IsRead (tested (declared_again [] (heads_of d.funcs) ++ declared_again [] (map (λ a. a.name) d.actions))) mid new y
+    → z ≡ option_both second x y → IsRead (tested (declared_again [] (heads_of d.preds) ++ (declared_again [] (heads_of d.funcs) ++ declared_again [] (map (λ a. a.name) d.actions)))) old new z
+signatures_tested d preds old mid new x y z same h k is =
+    read_tests (declared_again [] (heads_of d.preds)) (declared_again [] (heads_of d.funcs) ++ declared_again [] (map (λ a. a.name) d.actions)) old mid new x y z
+    (subst (λ (hs : List Head). IsRead (tested (declared_again [] (heads_of hs))) old mid x) same h) k is
+
+pub domain_tested : (d : DomainAst) (types consts : List Typed) (old m n new : Option Fault) (x y z s t : Option (Unit {0}))
+    → types ≡ d.types → consts ≡ d.constants → IsRead (tested (declared_again [] (names_of types))) old m x → IsRead (tested (declared_again [] (names_of consts))) m n y
+    → IsRead (tested (declared_again [] (heads_of d.preds) ++ (declared_again [] (heads_of d.funcs) ++ declared_again [] (map (λ a. a.name) d.actions)))) n new z
+    → s ≡ option_both second y z → t ≡ option_both second x s → IsRead (tested (domain_again d)) old new t
+domain_tested d types consts old m n new x y z s t same_types same_consts h k last is_s is_t =
+    let signatures : List Fault = declared_again [] (heads_of d.preds) ++ (declared_again [] (heads_of d.funcs) ++ declared_again [] (map (λ a. a.name) d.actions)) in
+    read_tests (declared_again [] (names_of d.types)) (declared_again [] (names_of d.constants) ++ signatures) old m new x s t
+    (subst (λ (ts : List Typed). IsRead (tested (declared_again [] (names_of ts))) old m x) same_types h)
+    (read_tests (declared_again [] (names_of d.constants)) signatures m n new y z s
+    (subst (λ (ts : List Typed). IsRead (tested (declared_again [] (names_of ts))) m n y) same_consts k) last is_s) is_t
+
+pub heads_kept : (heads same : List Head) (table : List (List ℕ)) → heads ≡ same → table ≡ distinct (texts (heads_of heads)) → table ≡ distinct (texts (heads_of same))
+heads_kept heads same table are is = is ∙ ap (λ (hs : List Head). distinct (texts (heads_of hs))) are
+
+pub domain_tables : (d : DomainAst) (types consts : List Typed) (t o p f : List (List ℕ)) → types ≡ d.types → consts ≡ d.constants
+    → t ≡ type_names types → o ≡ distinct (texts (names_of consts)) → p ≡ distinct (texts (heads_of d.preds)) → f ≡ distinct (texts (heads_of d.funcs))
     → (record { types = t; objects = o; preds = p; funcs = f; params = [] }) ≡ domain_scope d
-domain_tables d types consts preds funcs t a b c o p f same_types same_consts same_preds same_funcs is_t no_a is_o no_b is_p no_c is_f =
+domain_tables d types consts t o p f same_types same_consts is_t is_o at_p at_f =
     let at_t : t ≡ type_names d.types = is_t ∙ ap type_names same_types in
-    let at_o : o ≡ distinct (texts (names_of d.constants)) = distinct_names a o (names_of consts) no_a is_o ∙ ap (λ (ts : List Typed). distinct (texts (names_of ts))) same_consts in
-    let at_p : p ≡ distinct (texts (heads_of d.preds)) = distinct_names b p (heads_of preds) no_b is_p ∙ ap (λ (hs : List Head). distinct (texts (heads_of hs))) same_preds in
-    let at_f : f ≡ distinct (texts (heads_of d.funcs)) = distinct_names c f (heads_of funcs) no_c is_f ∙ ap (λ (hs : List Head). distinct (texts (heads_of hs))) same_funcs in
+    let at_o : o ≡ distinct (texts (names_of d.constants)) = is_o ∙ ap (λ (ts : List Typed). distinct (texts (names_of ts))) same_consts in
     ap (λ (l : List (List ℕ)). let s : Scope = record { types = l; objects = o; preds = p; funcs = f; params = [] } in s) at_t
     ∙ ap (λ (l : List (List ℕ)). let s : Scope = record { types = type_names d.types; objects = l; preds = p; funcs = f; params = [] } in s) at_o
     ∙ ap (λ (l : List (List ℕ)). let s : Scope = record { types = type_names d.types; objects = distinct (texts (names_of d.constants)); preds = l; funcs = f; params = [] } in s) at_p

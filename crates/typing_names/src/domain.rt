@@ -10,10 +10,10 @@ ghost use Rattle.typing_names.specs.Tables.{scope_in, parts_of};
 ghost use Rattle.typing_names.specs.Domain as domain;
 
 use crate::actions::resolve_actions;
-use crate::declare::{declare_actions, declare_heads, declare_typed};
 use crate::declared::{resolve_objects, resolve_signatures};
 use crate::fault::beside;
-use crate::type_names::{resolve_types, type_table};
+use crate::spaces::declare_domain;
+use crate::type_names::resolve_types;
 use hierarchy::Hierarchy;
 use name_table::NameTable;
 use pddl_domain::DomainAst;
@@ -46,41 +46,6 @@ pub struct DomainNames {
 
 /// The objects and the predicates, the functions, and the actions.
 type DomainFront = ((Items<Object>, Items<Signature>), Items<Signature>);
-
-/// The names of each space, and whether each name is declared once.
-fn declare_domain(
-    alloc: Global,
-    d: &DomainAst,
-    faults: &mut FirstFault,
-) -> Result<(Option<()>, Tables), AllocError>
-    ensures faults { IfOk result (λ made. IsRead (tested (domain.domain_again d.now)) faults.old faults.new made.0) }
-    ensures names { IfOk result (λ made. scope_in made.1 ≡ domain.domain_scope d.now) }
-{
-    let types = type_table(alloc, d.types.as_slice())?;
-    let mut listed = NameTable::new(alloc);
-    let new_types = declare_typed(alloc, &mut listed, d.types.as_slice(), faults)?;
-    let mut objects = NameTable::new(alloc);
-    let new_objects = declare_typed(alloc, &mut objects, d.constants.as_slice(), faults)?;
-    let mut preds = NameTable::new(alloc);
-    let new_preds = declare_heads(alloc, &mut preds, d.preds.as_slice(), faults)?;
-    let mut funcs = NameTable::new(alloc);
-    let new_funcs = declare_heads(alloc, &mut funcs, d.funcs.as_slice(), faults)?;
-    let mut actions = NameTable::new(alloc);
-    let new_actions = declare_actions(alloc, &mut actions, d.actions.as_slice(), faults)?;
-    let last = beside(new_funcs, new_actions);
-    let later = beside(new_preds, last);
-    let behind = beside(new_objects, later);
-    let all = beside(new_types, behind);
-    Ok((
-        all,
-        Tables {
-            types,
-            objects,
-            preds,
-            funcs,
-        },
-    ))
-}
 
 fn resolve_parts(
     alloc: Global,

@@ -11,6 +11,7 @@ mod domain;
 mod fault;
 mod item;
 mod problem;
+mod spaces;
 mod type_names;
 
 pub use declare::add_name;
