@@ -4,8 +4,8 @@ use crate::texts::{
     LINEAR, LINES, OBJECT_TYPES, OBJECTS, PARTS, PLACED, PLAIN, PROBLEM_NAMES, PROBLEM_TYPES,
     SMALL, TITLE, TYPED,
 };
-use pddl_domain::read_domain;
-use pddl_problem::read_problem;
+use pddl_domain::{DomainAst, read_domain};
+use pddl_problem::{ProblemAst, read_problem};
 use pddl_task::{Action, Cond, Effect, Fact, Given, Task};
 use sexpr::{Source, TextRefusal, read};
 use std::alloc::{AllocError, Global};
@@ -34,18 +34,26 @@ fn unmarked(
     Ok((bytes, place))
 }
 
+fn domain(rt: &impl Abort, alloc: Global, bytes: &[u8]) -> Result<DomainAst, TextRefusal> {
+    assert!(rt; bytes.len() <= 67108864);
+    let tree = read(alloc, Source::Domain, bytes)?;
+    read_domain(alloc, &tree)
+}
+
+fn problem(rt: &impl Abort, alloc: Global, bytes: &[u8]) -> Result<ProblemAst, TextRefusal> {
+    assert!(rt; bytes.len() <= 67108864);
+    let tree = read(alloc, Source::Problem, bytes)?;
+    read_problem(alloc, &tree)
+}
+
 fn task(
     rt: &impl Abort,
     alloc: Global,
-    domain: &[u8],
-    problem: &[u8],
+    domain_text: &[u8],
+    problem_text: &[u8],
 ) -> Result<Task, TextRefusal> {
-    assert!(rt; domain.len() <= 67108864);
-    assert!(rt; problem.len() <= 67108864);
-    let domain = read(alloc, Source::Domain, domain)?;
-    let domain = read_domain(alloc, &domain)?;
-    let problem = read(alloc, Source::Problem, problem)?;
-    let problem = read_problem(alloc, &problem)?;
+    let domain = domain(rt, alloc, domain_text)?;
+    let problem = problem(rt, alloc, problem_text)?;
     link(alloc, domain, problem)
 }
 
@@ -168,14 +176,12 @@ fn places_of_first_faults(rt: HostRuntime) -> Result<(), Fail> {
 
 /// How many objects, actions, facts, values and leaves of the goal a task has.
 fn counts(alloc: Global, made: &Task) -> Result<String, AllocError> {
-    format!(in alloc;
-        "{} {} {} {} {}",
-        made.objects(),
-        made.actions().len(),
-        made.facts().len(),
-        made.values().len(),
-        made.goal().len()
-    )
+    let objects = made.objects();
+    let actions = made.actions().len();
+    let facts = made.facts().len();
+    let values = made.values().len();
+    let goal = made.goal().len();
+    format!(in alloc; "{objects} {actions} {facts} {values} {goal}")
 }
 
 fn check_counts(rt: &impl Abort, alloc: Global, row: &str) -> Result<(), Fail> {
@@ -199,15 +205,14 @@ fn well_formed_texts(rt: HostRuntime) -> Result<(), Fail> {
     check_formed(&rt, rt.alloc(), FORMED)
 }
 
-/// The task of the first pair of whole texts.
-fn task_of(rt: &impl Abort, alloc: Global, rows: &str) -> Result<Task, Fail> {
-    let row = rows.lines().next().ok_or("no pair")?;
-    let (domain, problem) = row.split_once('|').ok_or("no problem")?;
+/// The task of a pair of whole texts.
+fn task_of(rt: &impl Abort, alloc: Global, pair: &str) -> Result<Task, Fail> {
+    let (domain, problem) = pair.split_once('|').ok_or("no problem")?;
     Ok(task(rt, alloc, domain.as_bytes(), problem.as_bytes())?)
 }
 
 fn parts(rt: &impl Abort, alloc: Global) -> Result<Task, Fail> {
-    task_of(rt, alloc, PARTS)
+    task_of(rt, alloc, PARTS.lines().next().ok_or("no pair")?)
 }
 
 /// The objects of a task with their types, by name.
