@@ -4,10 +4,10 @@
 //! A table has a row on each line, and a `|` in front of the text; `~` stands for a tab, `$` for a carriage return and `@`
 //! for a line feed.
 
-pub const TITLE: &str = "(define (domain d) ";
+pub(crate) const TITLE: &str = "(define (domain d) ";
 
 /// Whole texts.
-pub const WHOLES: &str = "\
+pub(crate) const WHOLES: &str = "\
 4|(^)\n\
 4|^(foo (domain d))\n\
 4|^(() (domain d))\n\
@@ -30,7 +30,7 @@ pub const WHOLES: &str = "\
 ";
 
 /// Sections, behind the title.
-pub const SECTIONS: &str = "\
+pub(crate) const SECTIONS: &str = "\
 4|^x\n\
 4|(^)\n\
 4|^((:types))\n\
@@ -60,7 +60,7 @@ pub const SECTIONS: &str = "\
 ";
 
 /// Typed lists of names, behind the title.
-pub const NAMES: &str = "\
+pub(crate) const NAMES: &str = "\
 4|(:types ^5)\n\
 4|(:types a - ^- b)\n\
 4|(:types ^- b)\n\
@@ -82,7 +82,7 @@ pub const NAMES: &str = "\
 ";
 
 /// Predicates and functions, behind the title.
-pub const HEADS: &str = "\
+pub(crate) const HEADS: &str = "\
 4|(:predicates ^g)\n\
 4|(:predicates (^))\n\
 4|(:predicates ^(5))\n\
@@ -115,7 +115,7 @@ pub const HEADS: &str = "\
 ";
 
 /// Actions, behind the title.
-pub const ACTIONS: &str = "\
+pub(crate) const ACTIONS: &str = "\
 4|(:action^)\n\
 4|(:action ^5)\n\
 4|(:action ^(a))\n\
@@ -139,7 +139,7 @@ pub const ACTIONS: &str = "\
 ";
 
 /// The condition of an action.
-pub const CONDITIONS: &str = "\
+pub(crate) const CONDITIONS: &str = "\
 4|^x\n\
 4|^(5)\n\
 4|^(?x)\n\
@@ -189,7 +189,7 @@ pub const CONDITIONS: &str = "\
 ";
 
 /// The left side of a comparison.
-pub const EXPRESSIONS: &str = "\
+pub(crate) const EXPRESSIONS: &str = "\
 4|(^)\n\
 4|(+ 1^)\n\
 4|(*^)\n\
@@ -213,7 +213,7 @@ pub const EXPRESSIONS: &str = "\
 ";
 
 /// The effect of an action.
-pub const EFFECTS: &str = "\
+pub(crate) const EFFECTS: &str = "\
 4|^x\n\
 4|^(or (g))\n\
 4|^(exists (?x) (g))\n\
@@ -249,7 +249,7 @@ pub const EFFECTS: &str = "\
 ";
 
 /// Two faults, in both orders, behind the title. The sections aren't read in the order of the text.
-pub const TWO_FAULTS: &str = "\
+pub(crate) const TWO_FAULTS: &str = "\
 4|(:types ^5) (:derived)\n\
 5 :derived|(^:derived) (:types 5)\n\
 5 :event|(^:event) (:derived)\n\
@@ -279,7 +279,7 @@ pub const TWO_FAULTS: &str = "\
 ";
 
 /// Sections without a fault, behind the title, and how many types, constants, predicates, functions and actions they have.
-pub const FORMED: &str = "\
+pub(crate) const FORMED: &str = "\
 0 0 0 0 0|\n\
 0 0 0 0 0|; (:types\n\
 0 0 0 0 0|(:requirements)\n\
@@ -318,6 +318,6 @@ pub const FORMED: &str = "\
 ";
 
 /// A domain with a type, a function and an action.
-pub const WHOLE: &str =
+pub(crate) const WHOLE: &str =
     "(define (domain D) (:types a b - c) (:functions (f ?x - (either a b)) - number) \
     (:action go :parameters (?x ?y - a) :precondition (not (= ?x ?y)) :effect (and (g) (increase (f ?x) 1))))";

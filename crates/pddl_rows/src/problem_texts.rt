@@ -1,11 +1,11 @@
 //! Texts of problems for the tests, by the project's profile of PDDL 2.1. The tables are as those of domains.
 
-pub const FRONT: &str = "(define (problem p) (:domain d) (:goal (g)) ";
+pub(crate) const FRONT: &str = "(define (problem p) (:domain d) (:goal (g)) ";
 
-pub const GOAL: &str = "(define (problem p) (:domain d) (:goal ";
+pub(crate) const GOAL: &str = "(define (problem p) (:domain d) (:goal ";
 
 /// Whole texts.
-pub const WHOLES: &str = "\
+pub(crate) const WHOLES: &str = "\
 4|(define^)\n\
 4|(define (problem p)^)\n\
 4|(define (problem p) (:domain d)^)\n\
@@ -49,7 +49,7 @@ pub const WHOLES: &str = "\
 ";
 
 /// Sections beside those that must be there.
-pub const SECTIONS: &str = "\
+pub(crate) const SECTIONS: &str = "\
 4|(^:domain d)\n\
 4|(^:goal (g))\n\
 4|(:init (^)) (:init (a))\n\
@@ -92,7 +92,7 @@ pub const SECTIONS: &str = "\
 ";
 
 /// Atoms of the initial state and their negations, beside the sections that must be there.
-pub const ATOMS: &str = "\
+pub(crate) const ATOMS: &str = "\
 4|(:init ^a)\n\
 4|(:init (a b) ^c)\n\
 4|(:init ^(5))\n\
@@ -139,7 +139,7 @@ pub const ATOMS: &str = "\
 ";
 
 /// Values of functions, beside the sections that must be there.
-pub const VALUES: &str = "\
+pub(crate) const VALUES: &str = "\
 4|(:init (= ^x 5))\n\
 4|(:init (= ^(5) 5))\n\
 4|(:init (= ^(and) 5))\n\
@@ -172,7 +172,7 @@ pub const VALUES: &str = "\
 ";
 
 /// The goal.
-pub const CONDITIONS: &str = "\
+pub(crate) const CONDITIONS: &str = "\
 4|^5\n\
 4|^(5)\n\
 4|^((g))\n\
@@ -200,7 +200,7 @@ pub const CONDITIONS: &str = "\
 ";
 
 /// The goal, a comparison.
-pub const COMPARISONS: &str = "\
+pub(crate) const COMPARISONS: &str = "\
 10|(= ^a)\n\
 4|(=^)\n\
 4|^(= a b c)\n\
@@ -228,7 +228,7 @@ pub const COMPARISONS: &str = "\
 ";
 
 /// Well-formed texts, with how many objects, items and leaves of the goal they have.
-pub const FORMED: &str = "\
+pub(crate) const FORMED: &str = "\
 0 0 0|(define (problem p) (:domain d) (:goal ()))\n\
 0 0 0|(define (problem p) (:goal (and)) (:domain d))\n\
 0 0 2|(DEFINE (Problem _p) (:GOAL (and (g) (and (not (= a b))))) (:domain when))\n\
@@ -259,7 +259,7 @@ pub const FORMED: &str = "\
 ";
 
 /// The sections of one problem with two objects, three items and a goal of one leaf, one on each line.
-pub const ROUND: &str = "\
+pub(crate) const ROUND: &str = "\
 (:domain d)\n\
 (:requirements :typing)\n\
 (:objects a b)\n\
@@ -270,11 +270,11 @@ pub const ROUND: &str = "\
 ";
 
 /// A problem with each form of item and each form of leaf.
-pub const PARTS: &str =
+pub(crate) const PARTS: &str =
     "(define (problem P) (:domain D) (:objects a B - T c) (:init (at a B) (not (g)) (= (f a) -1.5)) (:goal (and (g) (not (= a b)) (< (f a) 2))))";
 
 /// Its items: what each says, how many arguments it has, its value, and its place.
-pub const ITEMS: &str = "\
+pub(crate) const ITEMS: &str = "\
 true at 2 60\n\
 false g 0 69\n\
 f 1 -3/2 79\n\

@@ -3,7 +3,7 @@ use sexpr::TextRefusal;
 use std::alloc::{AllocError, Global};
 
 /// The bytes of a row's text with what stands around it, without the mark, and the place of the mark.
-pub fn unmarked(
+pub(crate) fn unmarked(
     alloc: Global,
     front: &str,
     text: &str,
@@ -26,7 +26,7 @@ pub fn unmarked(
 }
 
 /// The file of a fault, its place, its kind, and its word where it has one.
-pub fn refusal_text(alloc: Global, refusal: &TextRefusal) -> Result<String, AllocError> {
+pub(crate) fn refusal_text(alloc: Global, refusal: &TextRefusal) -> Result<String, AllocError> {
     let TextRefusal::Fault(fault) = refusal else {
         return String::from_str(alloc, "memory");
     };

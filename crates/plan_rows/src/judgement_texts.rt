@@ -2,7 +2,7 @@
 //! for the greatest whole number of 128 bits.
 
 /// `x` begins at 0, and `y` has no value.
-pub const DOMAIN: &str = "(define (domain d) (:types thing) (:constants o - thing other)
+pub(crate) const DOMAIN: &str = "(define (domain d) (:types thing) (:constants o - thing other)
     (:predicates (p)) (:functions (x) (y))
     (:action count :precondition (<= (x) 1) :effect (increase (x) 1))
     (:action take :parameters (?o - thing))
@@ -11,14 +11,14 @@ pub const DOMAIN: &str = "(define (domain d) (:types thing) (:constants o - thin
     (:action most :effect (increase (x) M))
     (:action put :effect (p)))";
 
-pub const PROBLEM: [&str; 2] = [
+pub(crate) const PROBLEM: [&str; 2] = [
     "(define (problem q) (:domain d) (:init (= (x) 0)) (:goal ",
     "))",
 ];
 
 /// The goal, the plan and the outcome, with a `;` in front of each of the last two. A failure has the part and the
 /// repetition in front of it, each from 1.
-pub const ROWS: &str = "\
+pub(crate) const ROWS: &str = "\
 ();;valid\n\
 (not (p));;valid\n\
 (p);;goal fails\n\
@@ -50,7 +50,7 @@ pub const ROWS: &str = "\
 ";
 
 /// The number of an action, of an object, and what a step of that instance comes to.
-pub const INSTANCES: &str = "\
+pub(crate) const INSTANCES: &str = "\
 1;0;made\n\
 1;1;an argument isn't of its parameter's types\n\
 1;2;an argument isn't of its parameter's types\n\

@@ -2,13 +2,13 @@
 //! `M` stand for. In a row a `=` stands in front of what is read.
 
 /// The actions `go` (0), `stop-it` (1) and `_x` (2), and the objects `a` (0), `b` (1) and `c9` (2).
-pub const DOMAIN: &str =
+pub(crate) const DOMAIN: &str =
     "(define (domain d) (:constants a b c9) (:action go) (:action stop-it) (:action _x))";
 
-pub const PROBLEM: &str = "(define (problem q) (:domain d) (:goal ()))";
+pub(crate) const PROBLEM: &str = "(define (problem q) (:domain d) (:goal ()))";
 
 /// Each part with its count, its action and its arguments; or the first fault.
-pub const READ: &str = "\
+pub(crate) const READ: &str = "\
 =\n\
 |=\n\
 &~^=\n\
@@ -105,14 +105,14 @@ x|(run)=fault 17 at byte 0\n\
 ";
 
 /// What is written of the plan that is read, line by line.
-pub const WRITTEN: &str = "\
+pub(crate) const WRITTEN: &str = "\
 =\n\
 (go)=1 (go)|\n\
 &12 ( GO~a b ); twelve||( stop-it )^|M (_x c9 c9)=12 (go a b)|1 (stop-it)|M (_x c9 c9)|\n\
 ";
 
 /// The number of steps.
-pub const LENGTHS: &str = "\
+pub(crate) const LENGTHS: &str = "\
 =0\n\
 (go)=1\n\
 2 (go)|(go)|40 (go)=43\n\

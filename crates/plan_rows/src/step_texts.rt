@@ -1,17 +1,17 @@
 //! Steps and repetitions, by the rules of `docs/LANGUAGE.md`. A row has a part in front of each `;`, and an `M` stands for the
 //! greatest whole number of 128 bits.
 
-pub const DOMAIN: [&str; 3] = [
+pub(crate) const DOMAIN: [&str; 3] = [
     "(define (domain d) (:predicates (p)) (:functions (x) (y)) (:action a :precondition (and ",
     ") :effect (and ",
     ")))",
 ];
 
-pub const PROBLEM: [&str; 2] = ["(define (problem q) (:domain d) (:init ", ") (:goal ()))"];
+pub(crate) const PROBLEM: [&str; 2] = ["(define (problem q) (:domain d) (:init ", ") (:goal ()))"];
 
 /// The items of the initial state; the leaves of the condition; those of the effect; and the answer: the values of `x` and
 /// `y`, `-` for none, and `p` where it is true; or the failure, behind which the state is as before.
-pub const STEPS: &str = "\
+pub(crate) const STEPS: &str = "\
 (= (x) 1) (= (y) 2);;;1 2\n\
 (= (x) 1) (= (y) 2) (p);(p);;1 2 p\n\
 (= (x) 1) (= (y) 2);(p);;leaf 0 of the condition doesn't hold\n\
@@ -83,7 +83,7 @@ pub const STEPS: &str = "\
 
 /// The items of the initial state; the leaves of the condition; those of the effect; how often; and the answer: the state
 /// behind the last repetition, or which one fails and why, behind which the state is as before the first.
-pub const REPEATS: &str = "\
+pub(crate) const REPEATS: &str = "\
 (= (x) 0);(< (x) 3);(increase (x) 1);0;0 -\n\
 (= (x) 0);(< (x) 3);(increase (x) 1);1;1 -\n\
 (= (x) 0);(< (x) 3);(increase (x) 1);3;3 -\n\

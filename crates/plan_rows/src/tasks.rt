@@ -31,21 +31,26 @@ fn put_byte(into: &mut Vec<u8>, byte: u8) -> Result<(), AllocError> {
 
 /// Adds the bytes of a text. An `M` stands for the greatest whole number of 128 bits, a `|` for a line feed, `~` for a tab,
 /// `^` for a carriage return, `&` for a space, and `@`, `%`, `$` and `!` for bytes that aren't allowed: 1, 11, 127 and 128.
-pub fn put_text(into: &mut Vec<u8>, text: &str) -> Result<(), AllocError> {
+pub(crate) fn put_text(into: &mut Vec<u8>, text: &str) -> Result<(), AllocError> {
     for byte in text.as_bytes() {
         put_byte(into, *byte)?;
     }
     Ok(())
 }
 
-pub fn bytes_of(alloc: Global, text: &str) -> Result<Vec<u8>, AllocError> {
+pub(crate) fn bytes_of(alloc: Global, text: &str) -> Result<Vec<u8>, AllocError> {
     let mut bytes = Vec::new(alloc);
     put_text(&mut bytes, text)?;
     Ok(bytes)
 }
 
 /// The same with what stands around the text.
-pub fn enclosed(alloc: Global, front: &str, text: &str, back: &str) -> Result<Vec<u8>, AllocError> {
+pub(crate) fn enclosed(
+    alloc: Global,
+    front: &str,
+    text: &str,
+    back: &str,
+) -> Result<Vec<u8>, AllocError> {
     let mut bytes = bytes_of(alloc, front)?;
     put_text(&mut bytes, text)?;
     put_text(&mut bytes, back)?;
@@ -53,12 +58,12 @@ pub fn enclosed(alloc: Global, front: &str, text: &str, back: &str) -> Result<Ve
 }
 
 /// The part of a row with this number, from 0, behind as many `;`.
-pub fn part(row: &str, at: usize) -> Result<&str, Fail> {
+pub(crate) fn part(row: &str, at: usize) -> Result<&str, Fail> {
     Ok(row.split(';').nth(at).ok_or("no part")?)
 }
 
 /// What was found is what the row wants.
-pub fn check_answer(
+pub(crate) fn check_answer(
     rt: &impl Abort,
     alloc: Global,
     row: &str,
@@ -83,7 +88,7 @@ fn problem(rt: &impl Abort, alloc: Global, bytes: &[u8]) -> Result<ProblemAst, T
 }
 
 /// The task of a domain and a problem that have no fault.
-pub fn task_of(
+pub(crate) fn task_of(
     rt: &impl Abort,
     alloc: Global,
     domain_text: &[u8],
@@ -95,7 +100,7 @@ pub fn task_of(
 }
 
 /// The plan of a text.
-pub fn plan_of(
+pub(crate) fn plan_of(
     rt: &impl Abort,
     alloc: Global,
     task: &Task,
@@ -117,7 +122,7 @@ fn word_of(op: Op) -> &'static str {
 }
 
 /// Adds the operation and its operands.
-pub fn put_wide(into: &mut Vec<u8>, wide: &Wide) -> Result<(), AllocError> {
+pub(crate) fn put_wide(into: &mut Vec<u8>, wide: &Wide) -> Result<(), AllocError> {
     into.extend_from_slice(word_of(wide.op).as_bytes())?;
     into.push(b' ')?;
     wide.x.to_text(into)?;
@@ -126,7 +131,11 @@ pub fn put_wide(into: &mut Vec<u8>, wide: &Wide) -> Result<(), AllocError> {
 }
 
 /// Adds what a failure says, and of an operation past 128 bits its operands too.
-pub fn put_fail(alloc: Global, into: &mut Vec<u8>, fail: &StepFail) -> Result<(), AllocError> {
+pub(crate) fn put_fail(
+    alloc: Global,
+    into: &mut Vec<u8>,
+    fail: &StepFail,
+) -> Result<(), AllocError> {
     if let StepFail::Wide(wide) = fail {
         return put_wide(into, wide);
     }

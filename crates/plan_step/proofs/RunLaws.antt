@@ -1,16 +1,16 @@
 -- Steps and runs end in one state; so a repetition that is made is a run, and one that fails, operations that pass 128 bits
 -- aside, is none.
-use Rattle.std.proofs.Common.{◌≡◌, ℕ, zero, suc, ◌+◌, ◌<◌, List, [], ◌∷◌, ◌++◌, map, ◌⊎◌, inl, inr, replicate, Some, Result, Ok, Err, refl, sym, ap, subst, ◌∙◌, arith}
+use Rattle.std.proofs.Common.{◌≡◌, ℕ, zero, suc, ◌+◌, ◌<◌, true, List, [], ◌∷◌, ◌++◌, map, ◌⊎◌, inl, inr, replicate, Some, Result, Ok, Err, refl, sym, ap, subst, ◌∙◌, arith}
 use Rattle.pddl_task.specs.declared.action.Action.{Action}
 use Rattle.pddl_task.specs.declared.instance.Instance.{Instance}
 use Rattle.pddl_task.specs.declared.parts.TaskParts.{TaskParts}
 use Rattle.plan_step.specs.declared.failure.StepFail.{StepFail}
 use Rattle.plan_step.specs.declared.failure.RepeatFail.{RepeatFail}
-use Rattle.plan_step.specs.State.{PlanState}
+use Rattle.plan_step.specs.State.{PlanState, initial}
 use Rattle.plan_step.specs.Effects.{Change, truth_behind}
 use Rattle.plan_step.specs.Step.{step_from}
 use Rattle.plan_step.specs.Repeat.{repeat_fail, then_again, repeated_from}
-use Rattle.plan_step.specs.Meaning.{change_of, value_behind, HasStep, Run, ended, stepped}
+use Rattle.plan_step.specs.Meaning.{all_hold, change_of, value_behind, HasStep, Run, ended, stepped, IsValidPlan}
 use Rattle.plan_step.specs.Laws.{IsWide}
 use Rattle.plan_step.proofs.Truths.{one_state}
 use Rattle.plan_step.proofs.Repetitions.{repeated_none, repeated_next}
@@ -42,6 +42,17 @@ one_run task (by ∷ plan) old s t r q =
     let a = split task old s by plan r in
     let b = split task old t by plan q in
     one_run task plan a.0 s t a.2 (let P : PlanState → Type 0 = λ u. Run task u plan t in subst P (sym (one_step task old a.0 b.0 by a.1 b.1)) b.2)
+
+-- the plan of no steps is valid where the goal holds in the initial state, and only there
+pub goal_at_start : (task : TaskParts) → all_hold (initial task) [] task.goal ≡ true → IsValidPlan task []
+goal_at_start task holds = record {
+  end = initial task;
+  run = ended (record { truth = λ p args. refl; value = λ f args. refl });
+  goal = holds;
+}
+
+pub start_has_goal : (task : TaskParts) → IsValidPlan task [] → all_hold (initial task) [] task.goal ≡ true
+start_has_goal task valid = ap (λ (s : PlanState). all_hold s [] task.goal) (stays task (initial task) valid.end valid.run) ∙ valid.goal
 
 again_ok : (at : ℕ) (r : Result PlanState StepFail) (next : PlanState → Result PlanState RepeatFail) (t : PlanState) → then_again at r next ≡ Ok t → (s : PlanState) × (r ≡ Ok s) × (next s ≡ Ok t)
 again_ok at (Ok s) next t is = (s, refl, is)

@@ -1,9 +1,9 @@
 //! Laws: what is evaluated in 128 bits is what the definitions without a bound say. Each stands as a function with an empty
 //! body, whose clauses are the laws.
-ghost use Rattle.std.specs.Prelude.{◌≡◌, ℕ, Bool, List, [], ◌++◌, replicate, Some, None, Ok, Err};
+ghost use Rattle.std.specs.Prelude.{◌≡◌, ℕ, Bool, true, List, [], ◌++◌, replicate, Some, None, Ok, Err};
 ghost use Rattle.rational.specs.Fraction.{Fraction};
 ghost use Rattle.pddl_task.specs.declared.expression.Expr.{Expr};
-ghost use Rattle.plan_step.specs.State.{PlanState};
+ghost use Rattle.plan_step.specs.State.{PlanState, initial};
 ghost use Rattle.plan_step.specs.Met.{found, lacks, passes};
 ghost use Rattle.plan_step.specs.Evaluation.{evaluated};
 ghost use Rattle.pddl_task.specs.declared.instance.Instance.{Instance};
@@ -12,7 +12,7 @@ ghost use Rattle.pddl_task.specs.declared.condition.Cond.{Cond};
 ghost use Rattle.plan_step.specs.Conditions.{goal_met};
 ghost use Rattle.plan_step.specs.Step.{step_from};
 ghost use Rattle.plan_step.specs.Repeat.{repeated_from};
-ghost use Rattle.plan_step.specs.Meaning.{all_hold, value_of, HasStep, Run};
+ghost use Rattle.plan_step.specs.Meaning.{all_hold, value_of, HasStep, Run, IsValidPlan};
 ghost use Rattle.frac128.specs.Operations.{Passes};
 ghost use Rattle.frac128.specs.declared.operations.Wide.{Wide};
 ghost use Rattle.plan_step.specs.Laws.{IsWide, TellsWide};
@@ -65,6 +65,12 @@ pub fn failed_repetition_is_none()
 #[tactic(auto, using(crate::proofs::LeafLaws::tested_goal))]
 pub fn tested_goal_holds()
     ensures { (state : PlanState) (conds : List Cond) (answer : Bool) → goal_met state conds ≡ Ok answer → all_hold state [] conds ≡ answer }
+{}
+
+/// The plan of no steps is valid exactly where the goal holds in the initial state.
+pub fn plan_of_no_steps()
+    ensures valid { (task : TaskParts) → all_hold (initial task) [] task.goal ≡ true → IsValidPlan task [] }
+    ensures only_valid { (task : TaskParts) → IsValidPlan task [] → all_hold (initial task) [] task.goal ≡ true }
 {}
 
 /// An operation that an evaluation, a step, a repetition or the test of a goal answers passes 128 bits; and the definitions

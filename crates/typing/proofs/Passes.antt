@@ -12,7 +12,7 @@ use Rattle.pddl_form.specs.declared.fault.Fault.{Fault}
 use Rattle.pddl_form.specs.Faults.{first_with, least}
 use Rattle.pddl_form.specs.Judged.{Judged, good, bad, syntax_of, noted}
 use Rattle.pddl_form.specs.Reading.{IsRead}
-use Rattle.pddl_form.specs.Concluded.{text_fault, Concludes, HasOutcome, Answers, RefusesBy as IsRefusedBy}
+use Rattle.pddl_form.specs.Concluded.{text_fault, Concludes, HasOutcome, Answers, RefusesBy}
 use Rattle.pddl_condition.specs.declared.condition.CondAst.{CondAst}
 use Rattle.pddl_domain.specs.declared.action.ActionAst.{ActionAst}
 use Rattle.pddl_domain.specs.declared.domain.DomainAst.{DomainAst}
@@ -39,7 +39,7 @@ use Rattle.typing_names.specs.Domain.{DomainParts, domain_names, domain_scope}
 use Rattle.typing_names.specs.Problem.{ProblemParts, problem_names, problem_scope}
 use Rattle.typing.specs.Types.{Declared, domain_types, problem_types, domain_declared, problem_declared, problem_faults}
 use Rattle.typing_linear.specs.Linear.{bent_domain, bent_goal}
-use Rattle.typing.specs.Link.{task_of, first_among, first_fault, passed, link_of, linear_task, problem_link, RefusesBy, Links}
+use Rattle.typing.specs.Link.{task_of, first_among, first_fault, passed, link_of, linear_task, problem_link, LinkRefuses, Links}
 
 -- ---- a pass that makes something, seen as what the definition makes
 
@@ -55,10 +55,10 @@ names_made {B = B} file view j (Some b) old None r h is = subst (λ (x : Result 
 names_made file view j None old None r h is = absurd is
 
 pub names_refused : {A B : Type 0} (file : Source) (view : B → A) (j : Judged A) (made : Option B) (old first : Option Fault) (r : Result B TextRefusal)
-    → old ≡ None → IsRead j old first (option_map view made) → Concludes file made first r → IfErr r (IsRefusedBy file j)
+    → old ≡ None → IsRead j old first (option_map view made) → Concludes file made first r → IfErr r (RefusesBy file j)
 names_refused {B = B} file view j made old (Some f) r none h is =
-    subst (λ (x : Result B TextRefusal). IfErr x (IsRefusedBy file j)) (sym is) (f, sym (h.first_is ∙ ap (λ (o : Option Fault). noted o j) none), refl)
-names_refused {B = B} file view j (Some b) old None r none h is = subst (λ (x : Result B TextRefusal). IfErr x (IsRefusedBy file j)) (sym is) tt
+    subst (λ (x : Result B TextRefusal). IfErr x (RefusesBy file j)) (sym is) (f, sym (h.first_is ∙ ap (λ (o : Option Fault). noted o j) none), refl)
+names_refused {B = B} file view j (Some b) old None r none h is = subst (λ (x : Result B TextRefusal). IfErr x (RefusesBy file j)) (sym is) tt
 names_refused file view j None old None r none h is = absurd is
 
 -- what holds of anything made holds of what is answered
@@ -166,13 +166,13 @@ goal_faults_are actions others goal said same is = ap (λ (a : List ActionAst). 
 first_is : (f : Fault) (more : List Fault) (first : Fault) → least None (f ∷ more) ≡ Some first → first_fault f more ≡ first
 first_is f more first is = ap (first_among f more) is
 
-refused : {A : Type 0} (file : Source) (j : Judged A) (next : A → Result TaskParts TextFault) (e : TextRefusal) → IsRefusedBy file j e → RefusesBy (passed file j next) e
+refused : {A : Type 0} (file : Source) (j : Judged A) (next : A → Result TaskParts TextFault) (e : TextRefusal) → RefusesBy file j e → LinkRefuses (passed file j next) e
 unfolding noted
 refused file (good a) next (refusal.Fault f) h = absurd (cc (h.1))
 refused file (bad g more) next (refusal.Fault f) h = ap (λ (x : Fault). Err (text_fault file x)) (first_is g more h.0 h.1) ∙ ap Err (sym h.2)
 refused file j next refusal.Memory h = tt
 
-pub domain_names_refused : (d : DomainAst) (p : ProblemAst) (e : TextRefusal) → IsRefusedBy source.Domain (domain_names d) e → Links d p (Err e)
+pub domain_names_refused : (d : DomainAst) (p : ProblemAst) (e : TextRefusal) → RefusesBy source.Domain (domain_names d) e → Links d p (Err e)
 unfolding link_of
 domain_names_refused d p e h = refused source.Domain (domain_names d) (λ parts. passed source.Domain (tested (domain_types d parts)) (λ _. problem_link d parts p)) e h
 
@@ -181,43 +181,43 @@ module _ (d : DomainAst) (p : ProblemAst) (parts : DomainParts) (has : domain_na
   unfolding link_of
   linked_names = ap (λ (j : Judged DomainParts). passed source.Domain j (λ x. passed source.Domain (tested (domain_types d x)) (λ _. problem_link d x p))) has
 
-  pub domain_types_refused : (e : TextRefusal) → IsRefusedBy source.Domain (tested (domain_types d parts)) e → Links d p (Err e)
-  domain_types_refused e h = subst (λ (r : Result TaskParts TextFault). RefusesBy r e) (sym linked_names) (refused source.Domain (tested (domain_types d parts)) (λ _. problem_link d parts p) e h)
+  pub domain_types_refused : (e : TextRefusal) → RefusesBy source.Domain (tested (domain_types d parts)) e → Links d p (Err e)
+  domain_types_refused e h = subst (λ (r : Result TaskParts TextFault). LinkRefuses r e) (sym linked_names) (refused source.Domain (tested (domain_types d parts)) (λ _. problem_link d parts p) e h)
 
   module _ (typed : tested (domain_types d parts) ≡ good tt) where
     linked_types : link_of d p ≡ problem_link d parts p
     linked_types = linked_names ∙ ap (λ (j : Judged (Unit {0})). passed source.Domain j (λ _. problem_link d parts p)) typed
 
-    pub problem_names_refused : (e : TextRefusal) → IsRefusedBy source.Problem (problem_names d p) e → Links d p (Err e)
+    pub problem_names_refused : (e : TextRefusal) → RefusesBy source.Problem (problem_names d p) e → Links d p (Err e)
     problem_names_refused e h =
-        subst (λ (r : Result TaskParts TextFault). RefusesBy r e) (sym linked_types)
+        subst (λ (r : Result TaskParts TextFault). LinkRefuses r e) (sym linked_types)
         (refused source.Problem (problem_names d p) (λ more. passed source.Problem (tested (problem_types d parts p more)) (λ _. linear_task d parts p more)) e h)
 
     module _ (more : ProblemParts) (also : problem_names d p ≡ good more) where
       linked_problem : link_of d p ≡ passed source.Problem (tested (problem_types d parts p more)) (λ _. linear_task d parts p more)
       linked_problem = linked_types ∙ ap (λ (j : Judged ProblemParts). passed source.Problem j (λ x. passed source.Problem (tested (problem_types d parts p x)) (λ _. linear_task d parts p x))) also
 
-      pub problem_types_refused : (e : TextRefusal) → IsRefusedBy source.Problem (tested (problem_types d parts p more)) e → Links d p (Err e)
+      pub problem_types_refused : (e : TextRefusal) → RefusesBy source.Problem (tested (problem_types d parts p more)) e → Links d p (Err e)
       problem_types_refused e h =
-          subst (λ (r : Result TaskParts TextFault). RefusesBy r e) (sym linked_problem)
+          subst (λ (r : Result TaskParts TextFault). LinkRefuses r e) (sym linked_problem)
           (refused source.Problem (tested (problem_types d parts p more)) (λ _. linear_task d parts p more) e h)
 
       module _ (fits : tested (problem_types d parts p more) ≡ good tt) where
         linked_linear : link_of d p ≡ linear_task d parts p more
         linked_linear = linked_problem ∙ ap (λ (j : Judged (Unit {0})). passed source.Problem j (λ _. linear_task d parts p more)) fits
 
-        pub domain_linearity_refused : (e : TextRefusal) → IsRefusedBy source.Domain (tested (bent_domain d.actions)) e → Links d p (Err e)
+        pub domain_linearity_refused : (e : TextRefusal) → RefusesBy source.Domain (tested (bent_domain d.actions)) e → Links d p (Err e)
         domain_linearity_refused e h =
-            subst (λ (r : Result TaskParts TextFault). RefusesBy r e) (sym linked_linear)
+            subst (λ (r : Result TaskParts TextFault). LinkRefuses r e) (sym linked_linear)
             (refused source.Domain (tested (bent_domain d.actions)) (λ _. passed source.Problem (tested (bent_goal d.actions p.goal)) (λ _. Ok (task_of parts more))) e h)
 
         module _ (straight : tested (bent_domain d.actions) ≡ good tt) where
           linked_goal : link_of d p ≡ passed source.Problem (tested (bent_goal d.actions p.goal)) (λ _. Ok (task_of parts more))
           linked_goal = linked_linear ∙ ap (λ (j : Judged (Unit {0})). passed source.Domain j (λ _. passed source.Problem (tested (bent_goal d.actions p.goal)) (λ _. Ok (task_of parts more)))) straight
 
-          pub goal_linearity_refused : (e : TextRefusal) → IsRefusedBy source.Problem (tested (bent_goal d.actions p.goal)) e → Links d p (Err e)
+          pub goal_linearity_refused : (e : TextRefusal) → RefusesBy source.Problem (tested (bent_goal d.actions p.goal)) e → Links d p (Err e)
           goal_linearity_refused e h =
-              subst (λ (r : Result TaskParts TextFault). RefusesBy r e) (sym linked_goal)
+              subst (λ (r : Result TaskParts TextFault). LinkRefuses r e) (sym linked_goal)
               (refused source.Problem (tested (bent_goal d.actions p.goal)) (λ _. Ok (task_of parts more)) e h)
 
           pub linked : tested (bent_goal d.actions p.goal) ≡ good tt → link_of d p ≡ Ok (task_of parts more)
@@ -227,4 +227,4 @@ pub task_linked : (d : DomainAst) (p : ProblemAst) (n : DomainNames) (m : Proble
     → tested (bent_domain d.actions) ≡ good tt → tested (bent_goal d.actions p.goal) ≡ good tt → (r : Result TaskParts TextRefusal)
     → IfOk r (λ t. t ≡ task_of (parts_of n) (problem_parts_of m)) → IfErr r (λ e. e ≡ refusal.Memory) → Links d p r
 task_linked d p n m is typed fits straight last (Ok t) made refused = linked d p (parts_of n) is.domain typed (problem_parts_of m) is.problem fits straight last ∙ ap Ok (sym made)
-task_linked d p n m is typed fits straight last (Err e) made refused = subst (λ (x : TextRefusal). RefusesBy (link_of d p) x) (sym refused) tt
+task_linked d p n m is typed fits straight last (Err e) made refused = subst (λ (x : TextRefusal). LinkRefuses (link_of d p) x) (sym refused) tt

@@ -60,11 +60,11 @@ link_of d p =
     passed source.Domain (domain_names d) (λ parts.
     passed source.Domain (tested (domain_types d parts)) (λ _. problem_link d parts p))
 
-abbrev pub RefusesBy : Result TaskParts TextFault → TextRefusal → Type 0
-RefusesBy linked (refusal.Fault f) = linked ≡ Err f
-RefusesBy linked refusal.Memory = Unit {0}
+abbrev pub LinkRefuses : Result TaskParts TextFault → TextRefusal → Type 0
+LinkRefuses linked (refusal.Fault f) = linked ≡ Err f
+LinkRefuses linked refusal.Memory = Unit {0}
 
 -- what linking answers: the task, or the first fault, unless memory ran out
 abbrev pub Links : DomainAst → ProblemAst → Result TaskParts TextRefusal → Type 0
 Links d p (Ok task) = link_of d p ≡ Ok task
-Links d p (Err e) = RefusesBy (link_of d p) e
+Links d p (Err e) = LinkRefuses (link_of d p) e

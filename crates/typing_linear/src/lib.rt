@@ -6,4 +6,6 @@
 
 mod linear;
 
-pub use linear::{Changing, judge_domain_linearity, judge_goal_linearity};
+pub use linear::{
+    Changing, judge_domain_linearity, judge_goal_linearity, operators_rise, scales_rise,
+};

@@ -4,29 +4,30 @@
 //! A table has a row on each line, and a `|` between the parts of a row: the kind of a fault, a part of the domain and a
 //! part of the problem, where its comment names no others. What stands around those parts is with the test.
 
-pub const TITLE: &str = "(define (domain d) ";
+pub(crate) const TITLE: &str = "(define (domain d) ";
 
-pub const PLAIN: &str = "(define (problem p) (:domain d) ";
+pub(crate) const PLAIN: &str = "(define (problem p) (:domain d) ";
 
 /// `t` and `u` stand under `v`, which isn't listed; `o` is an object.
-pub const TYPED: &str =
+pub(crate) const TYPED: &str =
     "(define (domain d) (:types t u - v w) (:constants k - t l - u m - v n - w o) \
     (:predicates (g) (p ?x - t) (q ?x - v ?y - (either t w)) (r ?x)) \
     (:functions (x) (y ?a - t) (z ?a - (either u w) ?b - v)) ";
 
-pub const OBJECTS: &str = "(define (problem p) (:domain d) (:objects a - t b - u c - v e - w f) ";
+pub(crate) const OBJECTS: &str =
+    "(define (problem p) (:domain d) (:objects a - t b - u c - v e - w f) ";
 
-pub const SMALL: &str =
+pub(crate) const SMALL: &str =
     "(define (domain d) (:types t) (:constants k - t) (:predicates (g) (p ?x - t)) \
     (:functions (x) (y ?a - t)) (:action a :parameters (?x - t) :effect (p ?x)) ";
 
 /// `x`, `y` and `z` change; `s` and `t` don't.
-pub const CHANGING: &str =
+pub(crate) const CHANGING: &str =
     "(define (domain d) (:constants k) (:predicates (g)) (:functions (x) (y) (z ?a) (s) (t)) \
     (:action c :parameters (?a) :effect (and (increase (x) 1) (assign (y) (s)) (decrease (z ?a) (t)))) ";
 
 /// Names that aren't declared, alone and beside others, in a domain.
-pub const DOMAIN_UNDECLARED: &str = "\
+pub(crate) const DOMAIN_UNDECLARED: &str = "\
 6|(:constants k - ^t)|\n\
 6|(:types t) (:constants k - t l - ^u)|\n\
 6|(:types t - u) (:constants k - u l - ^v)|\n\
@@ -70,7 +71,7 @@ pub const DOMAIN_UNDECLARED: &str = "\
 ";
 
 /// Names that are declared twice, alone and beside others, in a domain.
-pub const DOMAIN_TWICE: &str = "\
+pub(crate) const DOMAIN_TWICE: &str = "\
 7|(:types t ^t)|\n\
 7|(:types t ^T)|\n\
 7|(:types t - u ^t - v)|\n\
@@ -105,7 +106,7 @@ pub const DOMAIN_TWICE: &str = "\
 ";
 
 /// Types above themselves.
-pub const CIRCLES: &str = "\
+pub(crate) const CIRCLES: &str = "\
 9|(:types ^t - t)|\n\
 9|(:types t ^u - u)|\n\
 9|(:types ^t - u u - t)|\n\
@@ -137,7 +138,7 @@ pub const CIRCLES: &str = "\
 ";
 
 /// Numbers of arguments and types of arguments in a domain.
-pub const DOMAIN_TYPES: &str = "\
+pub(crate) const DOMAIN_TYPES: &str = "\
 8|(:action a :precondition (^g k))|\n\
 8|(:action a :precondition (^p))|\n\
 8|(:action a :precondition (^p k k))|\n\
@@ -188,7 +189,7 @@ pub const DOMAIN_TYPES: &str = "\
 ";
 
 /// Names in a problem.
-pub const PROBLEM_NAMES: &str = "\
+pub(crate) const PROBLEM_NAMES: &str = "\
 6||(:domain d) (:objects a - ^u) (:goal (g))\n\
 6||(:domain d) (:objects a - t b - object c - ^v) (:goal (g))\n\
 6||(:domain d) (:objects a - ^k) (:goal (g))\n\
@@ -235,7 +236,7 @@ pub const PROBLEM_NAMES: &str = "\
 ";
 
 /// Numbers of arguments and types of arguments in a problem.
-pub const PROBLEM_TYPES: &str = "\
+pub(crate) const PROBLEM_TYPES: &str = "\
 8||(:init (^g a)) (:goal (g))\n\
 8||(:init (g) (^p)) (:goal (g))\n\
 8||(:init (not (^g k))) (:goal (g))\n\
@@ -268,7 +269,7 @@ pub const PROBLEM_TYPES: &str = "\
 ";
 
 /// Items of the initial state that don't go together.
-pub const GIVEN: &str = "\
+pub(crate) const GIVEN: &str = "\
 12||(:init (= (x) 1) ^(= (x) 2))\n\
 12||(:init (= (x) 1) ^(= (x) -1))\n\
 12||(:init (= (x) 1) (= (x) 1.0) ^(= (x) 1.5))\n\
@@ -293,7 +294,7 @@ pub const GIVEN: &str = "\
 ";
 
 /// Products and quotients that aren't linear.
-pub const LINEAR: &str = "\
+pub(crate) const LINEAR: &str = "\
 11|(:action a :precondition (> (^* (x) (y)) 1))|\n\
 11|(:action a :precondition (> (^* (x) (x)) 1))|\n\
 11|(:action a :precondition (< 1 (^* 2 (x) (s) (y))))|\n\
@@ -332,7 +333,7 @@ pub const LINEAR: &str = "\
 ";
 
 /// The same in a goal, and beside faults of other passes.
-pub const ACROSS: &str = "\
+pub(crate) const ACROSS: &str = "\
 11||(:goal (> (^* (x) (y)) 1))\n\
 11||(:goal (and (g) (< (^/ 1 (x)) 1)))\n\
 11||(:goal (and (> (* (s) (x)) 1) (= (z k) (* 2 (^* (x) (y))))))\n\
@@ -345,7 +346,7 @@ pub const ACROSS: &str = "\
 ";
 
 /// The first fault of a pair, with its place, and the whole texts.
-pub const PLACED: &str = "\
+pub(crate) const PLACED: &str = "\
 6 Domain 57|(define (domain d) (:predicates (g)) (:action a :effect (h)))|(define (problem p) (:domain d) (:goal (g)))\n\
 7 Domain 37|(define (domain d) (:predicates (g) (g)))|(define (problem p) (:domain d) (:goal (g)))\n\
 8 Domain 72|(define (domain d) (:constants k) (:predicates (g)) (:action a :effect (g k)))|(define (problem p) (:domain d) (:goal (g)))\n\
@@ -356,7 +357,7 @@ pub const PLACED: &str = "\
 ";
 
 /// How many objects, actions, facts, values and leaves of the goal a pair without a fault has, and the whole texts.
-pub const FORMED: &str = "\
+pub(crate) const FORMED: &str = "\
 0 0 0 0 0|(define (domain d))|(define (problem p) (:domain d) (:goal ()))\n\
 0 0 0 0 0|(define (domain D))|(define (problem p) (:domain d) (:goal (and (and) ())))\n\
 1 1 1 1 1|(define (domain a) (:types a) (:constants a - a) (:predicates (a ?a - a)) (:functions (a ?a - a)) (:action a :parameters (?a - a) :precondition (and (a ?a) (= a ?a) (> (a a) 1)) :effect (increase (a ?a) (a a))))|(define (problem a) (:domain a) (:init (a a) (= (a a) 1)) (:goal (a a)))\n\
@@ -375,12 +376,12 @@ pub const FORMED: &str = "\
 ";
 
 /// A whole domain with each form of leaf, and a whole problem.
-pub const PARTS: &str = "\
+pub(crate) const PARTS: &str = "\
 (define (domain D) (:types t u - v w - t object x) (:constants K - t l - w m) (:predicates (g) (p ?x - t) (q ?x ?y - v) (r)) (:functions (f) (h ?a - (either t u)) (s) - number) (:action go :parameters (?x - (either t u) ?z - W ?y) :precondition (and (g) (not (q ?x l)) (= ?y k) (not (= ?z ?x)) (< (s) 1)) :effect (and (p ?z) (not (r)) (increase (f) (s)) (assign (h ?x) 2))) (:action stay))|(define (problem P) (:domain d) (:objects a - U B - x c) (:init (g) (not (r)) (p k) (= (f) 1) (q a l) (= (h a) 2.5) (= (f) 1.0)) (:goal (and (q k a) (not (g)) (and (= b c)) (not (= a a)) (>= (f) (s)))))\n\
 ";
 
 /// Its objects with their types.
-pub const OBJECT_TYPES: &str = "\
+pub(crate) const OBJECT_TYPES: &str = "\
 k - t\n\
 l - w\n\
 m - object\n\
@@ -390,7 +391,7 @@ c - object\n\
 ";
 
 /// Whether a type of it is another or below it.
-pub const BELOW: &str = "\
+pub(crate) const BELOW: &str = "\
 t t true\n\
 t v true\n\
 w t true\n\
@@ -408,7 +409,7 @@ object v false\n\
 ";
 
 /// The leaves of its first action's condition and effect and of its goal, and then its facts and values.
-pub const LINES: &str = "\
+pub(crate) const LINES: &str = "\
 true 0 []\n\
 false 2 [Param(0), Object(1)]\n\
 true Param(2) Object(0)\n\
