@@ -1,0 +1,4 @@
+pub mod Normal
+pub mod NormalLaws
+pub mod Linear
+pub mod Code
