@@ -1,0 +1,5 @@
+use Rattle.formula.proofs.Growing.{pushed-boolean}
+use Rattle.formula.proofs.formula.Formula.add_truth.Goals as goal
+
+pub invariant_of-self-2 : goal.invariant_of-self-2
+invariant_of-self-2 c = pushed-boolean _ _ _ _ _ c.self.invariant tt c.in_ok-push.ensures.ok

@@ -1,0 +1,13 @@
+//! The language of refutations: clauses over Booleans, each a truth variable or an atom, which is a bound on a linear
+//! expression. Begin with `Atom`, then `Formula`.
+#![tactic(auto)]
+
+mod atom;
+mod clause;
+mod formula;
+mod point;
+
+pub use atom::{Atom, Constraint, Lit};
+pub use clause::Clause;
+pub use formula::Formula;
+pub use point::Point;
