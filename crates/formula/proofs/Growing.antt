@@ -8,9 +8,10 @@ use Rattle.std.proofs.lemmas.List.{get_or_append_left}
 use Rattle.std.proofs.lemmas.List.Elements.{All-push, All-weaker}
 use Rattle.std.proofs.lemmas.Option.{slice_get-get_or}
 use Rattle.rational.specs.Linear.{Terms}
+use Rattle.lin.specs.Linear.{AreBelow}
 use Rattle.formula.specs.declared.atom.Atom.{Atom}
 use Rattle.formula.specs.declared.atom.Lit.{Lit}
-use Rattle.formula.specs.Atoms.{IsAtom, is_one_count, are_below}
+use Rattle.formula.specs.Atoms.{IsAtom, is_one_count}
 use Rattle.formula.specs.Contents.{Contents, IsFormula, IsBoolean, is_clause, is_clause_from, with_variable, with_boolean}
 
 -- ---- lists with one more at the end
@@ -26,11 +27,11 @@ is_less : (m n : ℕ) → nat_lt m n ≡ true → m < n
 is_less m n e = grind (arith, nat_tests)
 
 -- ---- one more variable
-below-more : (n k : ℕ) → n ≤ k → (ts : Terms) → are_below n ts ≡ true → are_below k ts ≡ true
+below-more : (n k : ℕ) → n ≤ k → (ts : Terms) → AreBelow n ts → AreBelow k ts
 below-more n k h [] e = refl
 below-more n k h (t ∷ ts) e = let p = and_parts (nat_lt t.0 n) _ e in and_from _ _ (at_most t.0 n k h p.0) (below-more n k h ts p.1)
 
-one_count-more : (counts : List Bool) (c : Bool) (ts : Terms) → are_below (length counts) ts ≡ true → is_one_count (counts ++ c ∷ []) ts ≡ is_one_count counts ts
+one_count-more : (counts : List Bool) (c : Bool) (ts : Terms) → AreBelow (length counts) ts → is_one_count (counts ++ c ∷ []) ts ≡ is_one_count counts ts
 one_count-more counts c [] e = refl
 one_count-more counts c (t ∷ []) e = ap (λ o. unwrap_or o false) (before counts c false t.0 (is_less t.0 (length counts) (and_parts (nat_lt t.0 (length counts)) _ e).0))
 one_count-more counts c (t ∷ u ∷ ts) e = refl

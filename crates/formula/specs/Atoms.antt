@@ -1,13 +1,12 @@
 -- The atoms of a formula: `lin <= bound` or `lin < bound`, in one form each, so that equal atoms are one. They are this
 -- project's own.
-use Rattle.std.specs.Prelude.{◌≡◌, ℕ, Bool, true, false, List, [], ◌∷◌, length, slice_get, unwrap_or}
-use Rattle.std.specs.List.{list_all}
-use Rattle.std.specs.Prelude.{nat_lt}
+use Rattle.std.specs.Prelude.{◌≡◌, Bool, true, false, List, [], ◌∷◌, length, slice_get, unwrap_or}
 use lib.IntN.{pos}
 use Rattle.rational.specs.Fraction.{Fraction, whole, ◌+ℚ◌}
 use Rattle.rational.specs.Floor.{IsWhole}
 use Rattle.rational.specs.Linear.{Terms}
 use Rattle.frac128.specs.Bounds.{IsFrac}
+use Rattle.lin.specs.Linear.{AreBelow}
 use Rattle.formula.specs.declared.atom.Atom.{Atom}
 
 -- the expression is one count
@@ -21,10 +20,6 @@ abbrev pub LeadsWithOne : Terms → Type 0
 LeadsWithOne [] = ⊥
 LeadsWithOne (t ∷ ts) = t.1 ≡ whole (pos 1)
 
--- the variables are below `vars`
-abbrev pub are_below : ℕ → Terms → Bool
-are_below vars ts = list_all (λ t. nat_lt t.0 vars) ts
-
 -- `c <= k` for a count c: k is whole, and k and k + 1 are fractions of 128 bits
 pub record IsRounded (strict : Bool) (bound : Fraction) : Type 0 where
   pub weak : strict ≡ false
@@ -34,5 +29,5 @@ pub record IsRounded (strict : Bool) (bound : Fraction) : Type 0 where
 pub record IsAtom (counts : List Bool) (a : Atom) : Type 0 where
   pub constant : a.lin.constant ≡ whole (pos 0)
   pub leading : LeadsWithOne a.lin.terms
-  pub known : are_below (length counts) a.lin.terms ≡ true
+  pub known : AreBelow (length counts) a.lin.terms
   pub rounded : is_one_count counts a.lin.terms ≡ true → IsRounded a.strict a.bound

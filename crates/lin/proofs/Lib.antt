@@ -1,1 +1,10 @@
 pub mod Making
+pub mod Leading
+pub mod Merging
+pub mod SharedOps
+pub mod MergeSteps
+pub mod SumAnswers
+pub mod Multiples
+pub mod Substituting
+pub mod Evaluating
+pub mod ValueLaws

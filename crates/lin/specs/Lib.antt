@@ -2,3 +2,5 @@ pub mod Normal
 pub mod NormalLaws
 pub mod Linear
 pub mod Code
+pub mod Operations
+pub mod Made

@@ -6,19 +6,19 @@ use Rattle.rational.specs.Fraction.{Fraction, ◌+ℚ◌}
 use Rattle.rational.specs.Linear.{Terms}
 use Rattle.lin.specs.Normal.{is_zero, is_normal_from, IsNormal, put_first, with_term, collected}
 
-above : (m n : ℕ) → nat_lt m n ≡ true → nat_le (suc m) n ≡ true
+pub above : (m n : ℕ) → nat_lt m n ≡ true → nat_le (suc m) n ≡ true
 above m n e = grind (arith, nat_tests)
 
-after : (m n : ℕ) → nat_lt m n ≡ false → nat_eq m n ≡ false → nat_le (suc n) m ≡ true
+pub after : (m n : ℕ) → nat_lt m n ≡ false → nat_eq m n ≡ false → nat_le (suc n) m ≡ true
 after m n f g = grind (arith, nat_tests)
 
-up : (m n : ℕ) → nat_le m n ≡ true → m ≤ suc n
+pub up : (m n : ℕ) → nat_le m n ≡ true → m ≤ suc n
 up m n e = grind (arith, nat_tests)
 
-from_zero : (n : ℕ) → nat_le 0 n ≡ true
+pub from_zero : (n : ℕ) → nat_le 0 n ≡ true
 from_zero n = grind (arith, nat_tests)
 
-lower : (k m n : ℕ) → k ≤ m → nat_le m n ≡ true → nat_le k n ≡ true
+pub lower : (k m n : ℕ) → k ≤ m → nat_le m n ≡ true → nat_le k n ≡ true
 lower k m n h e = grind (arith, nat_tests)
 
 -- a term in front of terms of later variables

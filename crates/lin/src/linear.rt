@@ -79,4 +79,23 @@ impl Lin {
     {
         self.constant
     }
+
+    /// An equal expression of its own.
+    pub fn try_clone(&self) -> Result<Lin, AllocError>
+        ensures { IfOk result (λ l. l ≡ self.now) }
+    {
+        let terms = Items::from_slice(self.alloc(), self.all_terms())?;
+        Ok(made(self.alloc(), terms, self.constant()))
+    }
+
+    pub(crate) fn all_terms(&self) -> &[(u64, Frac)]
+        ensures value { result.now ≡ self.now.terms }
+        ensures normal { IsNormal result.now }
+    {
+        self.terms.as_slice()
+    }
+
+    pub(crate) fn alloc(&self) -> Global {
+        self.alloc
+    }
 }
