@@ -14,7 +14,8 @@ use Rattle.plan_judge.specs.declared.outcome.Outcome.{Outcome}
 use Rattle.plan_judge.specs.declared.outcome.Outcome.TheVariants as outcome
 use Rattle.plan_judge.specs.Outcome.{outcome_of}
 use Rattle.plan_judge.specs.Written.{IsValid}
-use Rattle.plan_judge.specs.Laws.{IsRefutal, FailPassesBits, PassesBits, MeansFail, Means}
+use Rattle.plan_step.specs.Laws.{IsRefutal}
+use Rattle.plan_judge.specs.Laws.{FailPassesBits, PassesBits, MeansFail, Means}
 use Rattle.patty_run.specs.Inputs.{InputFile}
 use Rattle.patty_run.specs.Files.{AreHeld}
 use Rattle.patty_run.specs.Printed.{joined}

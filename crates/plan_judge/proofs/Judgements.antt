@@ -10,7 +10,7 @@ use Rattle.plan_step.specs.State.{PlanState, initial}
 use Rattle.plan_step.specs.Repeat.{repeated_from}
 use Rattle.plan_step.specs.Conditions.{goal_met}
 use Rattle.plan_step.specs.Meaning.{all_hold, Run, ended}
-use Rattle.plan_step.specs.Laws.{IsWide, TellsWide}
+use Rattle.plan_step.specs.Laws.{IsWide, IsRefutal, TellsWide}
 use Rattle.plan_step.proofs.LeafLaws.{tested_goal}
 use Rattle.plan_step.proofs.WideLaws.{wide_repetition, wide_goal}
 use Rattle.plan_step.proofs.RunLaws.{one_run, made_run, run_behind, failed_wide}
@@ -19,8 +19,9 @@ use Rattle.plan_judge.specs.declared.outcome.Outcome.{Outcome}
 use Rattle.plan_judge.specs.declared.outcome.Outcome.TheVariants as outcome
 use Rattle.plan_judge.specs.declared.outcome.PartFail.{PartFail}
 use Rattle.plan_judge.specs.Outcome.{part_fail, then_more, made_from, goal_outcome, end_outcome, outcome_of}
-use Rattle.plan_judge.specs.Written.{written_out, IsValid}
-use Rattle.plan_judge.specs.Laws.{IsRefutal, SaysInvalid, MeansFail, Means}
+use Rattle.plan_text.specs.Printed.{written_out}
+use Rattle.plan_judge.specs.Written.{IsValid}
+use Rattle.plan_judge.specs.Laws.{SaysInvalid, MeansFail, Means}
 use Rattle.plan_judge.proofs.Parts.{made_none, made_next}
 
 more_ok : (n : ℕ) (r : Result PlanState RepeatFail) (next : PlanState → Result PlanState PartFail) (t : PlanState) → then_more n r next ≡ Ok t → (s : PlanState) × (r ≡ Ok s) × (next s ≡ Ok t)

@@ -6,14 +6,15 @@ use Rattle.plan_step.specs.State.{PlanState, initial}
 use Rattle.plan_step.specs.Step.{step_from}
 use Rattle.plan_step.specs.Conditions.{goal_met}
 use Rattle.plan_step.specs.Meaning.{Run}
+use Rattle.plan_step.specs.Reasons.{FailsBy}
 use Rattle.plan_text.specs.declared.plan.Part.{Part}
 use Rattle.plan_judge.specs.declared.outcome.PartFail.{PartFail}
 use Rattle.plan_judge.specs.declared.outcome.Outcome.{Outcome}
 use Rattle.plan_judge.specs.declared.outcome.Outcome.TheVariants as outcome
-use Rattle.plan_judge.specs.Written.{written_out}
+use Rattle.plan_text.specs.Printed.{written_out}
 
--- The parts in front of one have a run, with some of its repetitions behind them, and the next step fails. Parts and
--- repetitions are numbered from 1.
+-- The parts in front of one have a run, with some of its repetitions behind them, and the next step fails, by the reason
+-- that is told. Parts and repetitions are numbered from 1.
 pub record IsFirstFailure (task : TaskParts) (plan : List Part) (e : PartFail) : Type 0 where
   pub front : List Part
   pub part : Part
@@ -25,6 +26,7 @@ pub record IsFirstFailure (task : TaskParts) (plan : List Part) (e : PartFail) :
   pub repetition : e.fail.at ≡ made + 1
   pub reached : PlanState
   pub run : Run task (initial task) (written_out front ++ replicate made part.by) reached
+  pub reason : FailsBy task reached part.by e.fail.fail
   pub fails : step_from task reached part.by ≡ Err e.fail.fail
 
 -- the plan written out has a run, and the goal's test behind it answers this

@@ -6,18 +6,9 @@ use Rattle.plan_text.specs.declared.plan.Part.{Part}
 use Rattle.plan_judge.specs.Written.{IsValid}
 use Rattle.plan_step.specs.declared.failure.StepFail.{StepFail}
 use Rattle.plan_step.specs.declared.failure.StepFail.TheVariants as fail
+use Rattle.plan_step.specs.Laws.{IsRefutal}
 use Rattle.plan_judge.specs.declared.outcome.Outcome.{Outcome}
 use Rattle.plan_judge.specs.declared.outcome.Outcome.TheVariants as outcome
-
--- the failure says that there is no step
-abbrev pub IsRefutal : StepFail → Type 0
-IsRefutal (fail.Wide w) = ⊥
-IsRefutal fail.Arity = Unit {0}
-IsRefutal fail.ArgType = Unit {0}
-IsRefutal (fail.Condition i) = Unit {0}
-IsRefutal (fail.NoValue i) = Unit {0}
-IsRefutal (fail.Clash i) = Unit {0}
-IsRefutal fail.Memory = ⊥
 
 -- the outcome says that the plan isn't valid
 abbrev pub SaysInvalid : Outcome → Type 0

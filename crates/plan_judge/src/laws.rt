@@ -5,8 +5,10 @@ ghost use Rattle.plan_text.specs.declared.plan.Part.{Part};
 ghost use Rattle.plan_step.specs.State.{PlanState, initial};
 ghost use Rattle.plan_step.specs.Meaning.{Run};
 ghost use Rattle.plan_judge.specs.Outcome.{made_from, outcome_of};
-ghost use Rattle.plan_judge.specs.Written.{written_out, IsValid};
-ghost use Rattle.plan_judge.specs.Laws.{IsRefutal, SaysInvalid};
+ghost use Rattle.plan_text.specs.Printed.{written_out};
+ghost use Rattle.plan_step.specs.Laws.{IsRefutal};
+ghost use Rattle.plan_judge.specs.Written.{IsValid};
+ghost use Rattle.plan_judge.specs.Laws.{SaysInvalid};
 ghost use Rattle.plan_judge.specs.declared.outcome.Outcome.TheVariants as outcome;
 ghost use Rattle.plan_judge.specs.declared.outcome.PartFail.{PartFail};
 

@@ -178,7 +178,7 @@ module _ (state : PlanState) (args : List ℕ) where
   wide_change : (e : StepFail) (w : Wide) → ◌≡◌ {A = Result (List Change) StepFail} (Err (fail.Wide w)) (Err e) → IsWide e
   wide_change e w is = let same : fail.Wide w ≡ e = cc in subst IsWide same tt
 
-  on_err : (c : Change) (rest : Result (List Change) StepFail) (e : StepFail) → more_changes c rest ≡ Err e → rest ≡ Err e
+  pub on_err : (c : Change) (rest : Result (List Change) StepFail) (e : StepFail) → more_changes c rest ≡ Err e → rest ≡ Err e
   on_err c (Ok more) e is = cc
   on_err c (Err f) e is = is
 

@@ -22,3 +22,6 @@ pub mod LeafLaws
 pub mod StepLaws
 pub mod RunLaws
 pub mod WideLaws
+pub mod Reasons
+pub mod ReasonLaws
+pub mod Breaking

@@ -22,7 +22,7 @@ same_action a b is = cc
 -- a step ends in one state
 pub one_step : (task : TaskParts) (old s t : PlanState) (by : Instance) → HasStep task old by s → HasStep task old by t → s ≡ t
 one_step task old s t by h k =
-    let action : h.action ≡ k.action = same_action h.action k.action (sym h.is_action ∙ k.is_action) in
+    let action : h.action ≡ k.action = same_action h.action k.action (sym h.of_action.is_action ∙ k.of_action.is_action) in
     let changes : h.changes ≡ k.changes = one_list h.changes k.changes (sym h.values ∙ ap (λ (a : Action). map (change_of old by.args) a.effs) action ∙ k.values) in
     one_state s t
     (λ p args. h.truth p args ∙ ap (λ (cs : List Change). truth_behind cs old.truth p args) changes ∙ sym (k.truth p args))

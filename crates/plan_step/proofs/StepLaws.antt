@@ -35,7 +35,7 @@ clash_free : {A : Type 0} (b : Bool) (e : StepFail) (r : Result A StepFail) (a :
 clash_free true e r a is = cc
 clash_free false e r a is = (refl, is)
 
-same_some : (c b : Change) → Some c ≡ Some b → c ≡ b
+pub same_some : (c b : Change) → Some c ≡ Some b → c ≡ b
 same_some c b is = cc
 
 -- a change in a list without clashes clashes with none in front
@@ -52,12 +52,12 @@ either_true : (x y : Bool) → (x || y) ≡ false → (x ≡ false) × (y ≡ fa
 either_true true y h = cc
 either_true false y h = (refl, h)
 
-not_any : (test : Change → Bool) (cs : List Change) (i : ℕ) (a : Change) → slice_get cs i ≡ Some a → list_any test cs ≡ false → test a ≡ false
+pub not_any : (test : Change → Bool) (cs : List Change) (i : ℕ) (a : Change) → slice_get cs i ≡ Some a → list_any test cs ≡ false → test a ≡ false
 not_any test [] i a at none = cc
 not_any test (c ∷ cs) zero a at none = ap test (sym (same_some c a at)) ∙ (either_true (test c) (list_any test cs) none).0
 not_any test (c ∷ cs) (suc i) a at none = not_any test cs i a at (either_true (test c) (list_any test cs) none).1
 
-take_get : (cs : List Change) (i j : ℕ) (a : Change) → i < j → slice_get cs i ≡ Some a → slice_get (take j cs) i ≡ Some a
+pub take_get : (cs : List Change) (i j : ℕ) (a : Change) → i < j → slice_get cs i ≡ Some a → slice_get (take j cs) i ≡ Some a
 take_get [] i j a below at = cc
 take_get (c ∷ cs) i zero a below at = absurd (omega arith)
 take_get (c ∷ cs) zero (suc j) a below at = at
@@ -67,11 +67,11 @@ pub clean : (cs : List Change) → first_clash 0 [] cs ≡ Ok tt → IsClean cs
 clean cs is = λ i j a b below at_i at_j. not_any (clashes b) (take j cs) i a (take_get cs i j a below at_i) (clean_at [] cs 0 j b is at_j)
 
 -- the other way round
-none_any : (test : Change → Bool) (cs : List Change) → ((i : ℕ) (a : Change) → slice_get cs i ≡ Some a → test a ≡ false) → list_any test cs ≡ false
+pub none_any : (test : Change → Bool) (cs : List Change) → ((i : ℕ) (a : Change) → slice_get cs i ≡ Some a → test a ≡ false) → list_any test cs ≡ false
 none_any test [] h = refl
 none_any test (c ∷ cs) h = ap₂ ◌||◌ (h 0 c refl) (none_any test cs (λ i a at. h (suc i) a at))
 
-took : (cs : List Change) (i j : ℕ) (a : Change) → slice_get (take j cs) i ≡ Some a → (i < j) × (slice_get cs i ≡ Some a)
+pub took : (cs : List Change) (i j : ℕ) (a : Change) → slice_get (take j cs) i ≡ Some a → (i < j) × (slice_get cs i ≡ Some a)
 took [] i zero a at = cc
 took [] i (suc j) a at = cc
 took (c ∷ cs) i zero a at = cc
@@ -165,13 +165,13 @@ fits_count : (b : Bool) (a c : Action) → cond b (Ok a) (Err fail.Arity) ≡ Ok
 fits_count true a c is = let same : a ≡ c = cc in (refl, same)
 fits_count false a c is = cc
 
-action_is : (n : ℕ) (o : Option Action) (a : Action) → action_with n o ≡ Ok a → (o ≡ Some a) × (length a.params ≡ n)
+pub action_is : (n : ℕ) (o : Option Action) (a : Action) → action_with n o ≡ Ok a → (o ≡ Some a) × (length a.params ≡ n)
 action_is n None a is = cc
 action_is n (Some b) a is =
     let s = fits_count (length b.params == n) b a is in
     (ap (λ (c : Action). Some c) s.1, ap (λ (c : Action). length c.params) (sym s.1) ∙ eqb-true (length b.params) n s.0)
 
-typed_is : (b : Bool) → ◌≡◌ {A = Result (Unit {0}) StepFail} (cond b (Ok tt) (Err fail.ArgType)) (Ok tt) → b ≡ true
+pub typed_is : (b : Bool) → ◌≡◌ {A = Result (Unit {0}) StepFail} (cond b (Ok tt) (Err fail.ArgType)) (Ok tt) → b ≡ true
 typed_is true is = refl
 typed_is false is = cc
 
@@ -195,9 +195,11 @@ step_has_step task old new by is =
     let s = action_is (length by.args) (slice_get task.actions by.action) a.0 a.1 in
     record {
       action = a.0;
-      is_action = s.0;
-      arity = s.1;
-      typed = typed_is (all_fit task a.0.params by.args) t.1;
+      of_action = record {
+        is_action = s.0;
+        arity = s.1;
+        typed = typed_is (all_fit task a.0.params by.args) t.1;
+      };
       conditions = conditions_hold old by.args a.0.conds 0 c.1;
       changes = v.0;
       values = changes_are old by.args a.0.effs 0 v.0 v.1;
@@ -214,7 +216,7 @@ next_fails (Err f) next e h k is = let same : f ≡ e = cc in h (ap (λ (g : Ste
 is_there : {A : Type 0} (r : Result A StepFail) (a : A) (e : StepFail) → r ≡ Ok a → r ≡ Err e → IsWide e
 is_there r a e is also = cc
 
-action_found : (n : ℕ) (o : Option Action) (a : Action) → o ≡ Some a → length a.params ≡ n → action_with n o ≡ Ok a
+pub action_found : (n : ℕ) (o : Option Action) (a : Action) → o ≡ Some a → length a.params ≡ n → action_with n o ≡ Ok a
 action_found n o a is arity = ap (action_with n) is ∙ ap (λ b. cond b (Ok a) (Err fail.Arity)) (eq-eqb (length a.params) n arity)
 
 pub one_list : (cs ds : List Change) → map (λ (c : Change). Some c) cs ≡ map (λ (c : Change). Some c) ds → cs ≡ ds
@@ -226,7 +228,7 @@ one_list (c ∷ cs) (d ∷ ds) is =
     let tail : map (λ (x : Change). Some x) cs ≡ map (λ (x : Change). Some x) ds = cc in
     ap₂ (λ (x : Change) (xs : List Change). x ∷ xs) head (one_list cs ds tail)
 
-behind_fails : (changes : List Change) (old : PlanState) (m : Met Values) (e : StepFail) → with_values changes old m ≡ Err e → IsWide e
+pub behind_fails : (changes : List Change) (old : PlanState) (m : Met Values) (e : StepFail) → with_values changes old m ≡ Err e → IsWide e
 behind_fails changes old (found w) e is = cc
 behind_fails changes old lacks e is = cc
 behind_fails changes old (passes w) e is = let same : fail.Wide w ≡ e = cc in subst IsWide same tt
@@ -235,8 +237,8 @@ behind_fails changes old (passes w) e is = let same : fail.Wide w ≡ e = cc in 
 pub step_fails_wide : (task : TaskParts) (old new : PlanState) (by : Instance) (e : StepFail) → HasStep task old by new → step_from task old by ≡ Err e → IsWide e
 unfolding step_from
 step_fails_wide task old new by e h is =
-    let there : action_for task by ≡ Ok h.action = action_found (length by.args) (slice_get task.actions by.action) h.action h.is_action h.arity in
-    let typed : typed_arguments task h.action by.args ≡ Ok tt = ap (λ b. cond b (Ok tt) (Err fail.ArgType)) h.typed in
+    let there : action_for task by ≡ Ok h.action = action_found (length by.args) (slice_get task.actions by.action) h.action h.of_action.is_action h.of_action.arity in
+    let typed : typed_arguments task h.action by.args ≡ Ok tt = ap (λ b. cond b (Ok tt) (Err fail.ArgType)) h.of_action.typed in
     let made : made_by old h.action by.args ≡ Err e =
     sym (ap (λ (r : Result Action StepFail). then_next r (λ a. then_next (typed_arguments task a by.args) (λ _. made_by old a by.args))) there ∙ ap (λ (r : Result (Unit {0}) StepFail). then_next r (λ _. made_by old h.action by.args)) typed) ∙ is in
     next_fails (first_unmet 0 (leaves_met old by.args h.action.conds)) _ e (conditions_fail old by.args h.action.conds 0 e h.conditions)

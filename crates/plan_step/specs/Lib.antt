@@ -15,3 +15,4 @@ pub mod Laws
 pub mod Sums
 pub mod Step
 pub mod Meaning
+pub mod Reasons

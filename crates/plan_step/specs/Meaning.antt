@@ -124,12 +124,16 @@ value_behind (change op g others by ∷ more) f args value = if g == f && bytes_
 
 -- ---- the step, runs and plans
 
--- an instance has a step from a state to another
-pub record HasStep (task : TaskParts) (old : PlanState) (by : Instance) (new : PlanState) : Type 0 where
-  pub action : Action
+-- an instance of an action: it has its number, and an argument of its types for each parameter
+pub record IsInstanceOf (task : TaskParts) (by : Instance) (action : Action) : Type 0 where
   pub is_action : slice_get task.actions by.action ≡ Some action
   pub arity : length action.params ≡ length by.args
   pub typed : all_fit task action.params by.args ≡ true
+
+-- an instance has a step from a state to another
+pub record HasStep (task : TaskParts) (old : PlanState) (by : Instance) (new : PlanState) : Type 0 where
+  pub action : Action
+  pub of_action : IsInstanceOf task by action
   pub conditions : all_hold old by.args action.conds ≡ true
   pub changes : List Change
   pub values : map (change_of old by.args) action.effs ≡ map Some changes

@@ -15,7 +15,8 @@ ghost use Rattle.plan_step.specs.Repeat.{repeated_from};
 ghost use Rattle.plan_step.specs.Meaning.{all_hold, value_of, HasStep, Run, IsValidPlan};
 ghost use Rattle.frac128.specs.Operations.{Passes};
 ghost use Rattle.frac128.specs.declared.operations.Wide.{Wide};
-ghost use Rattle.plan_step.specs.Laws.{IsWide, TellsWide};
+ghost use Rattle.plan_step.specs.Laws.{IsWide, IsRefutal, TellsWide, FailsOnly};
+ghost use Rattle.plan_step.specs.Reasons.{FailsBy};
 ghost use Rattle.plan_step.specs.declared.failure.StepFail.{StepFail};
 ghost use Rattle.plan_step.specs.declared.failure.RepeatFail.{RepeatFail};
 
@@ -36,6 +37,14 @@ pub fn made_step_is_a_step()
 /// of memory it has none.
 pub fn failed_step_is_none()
     ensures { (task : TaskParts) (old new : PlanState) (by : Instance) (e : StepFail) → HasStep task old by new → step_from task old by ≡ Err e → IsWide e }
+{}
+
+/// A step that fails has the reason that it tells. Where there is a reason, the step fails by it, unless an operation passes
+/// 128 bits before; and the instance has no step.
+pub fn failures_have_reasons()
+    ensures reason { (task : TaskParts) (s : PlanState) (by : Instance) (e : StepFail) → step_from task s by ≡ Err e → FailsBy task s by e }
+    ensures answered { (task : TaskParts) (s : PlanState) (by : Instance) (e : StepFail) → IsRefutal e → FailsBy task s by e → FailsOnly e (step_from task s by) }
+    ensures none { (task : TaskParts) (s t : PlanState) (by : Instance) (e : StepFail) → IsRefutal e → FailsBy task s by e → HasStep task s by t → ⊥ }
 {}
 
 /// A step of an instance from a state ends in one state.
@@ -62,7 +71,6 @@ pub fn failed_repetition_is_none()
 {}
 
 /// What the test of a goal says is so.
-#[tactic(auto, using(crate::proofs::LeafLaws::tested_goal))]
 pub fn tested_goal_holds()
     ensures { (state : PlanState) (conds : List Cond) (answer : Bool) → goal_met state conds ≡ Ok answer → all_hold state [] conds ≡ answer }
 {}

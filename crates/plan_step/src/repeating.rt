@@ -1,10 +1,11 @@
 //! Repeating an instance. Each repetition touches the same atoms and functions, so what the first one's touches keep undoes
 //! them all.
-ghost use Rattle.std.specs.Prelude.{◌-◌, ◌<◌};
+ghost use Rattle.std.specs.Prelude.{◌-◌, ◌<◌, IfErr};
 ghost use Rattle.plan_step.specs.Held.{state_of, KeepsPlaces};
 ghost use Rattle.plan_step.specs.Touches.{DiffersIn};
 ghost use Rattle.plan_step.specs.Fitting.{targets_of};
 ghost use Rattle.plan_step.specs.Repeat.{repeated_from, Repeats, RepeatsOn};
+ghost use Rattle.plan_step.specs.Reasons.{BreaksBy};
 
 use crate::application::restore;
 use crate::failure::RepeatFail;
@@ -34,8 +35,8 @@ fn repeat_on(
     Ok(())
 }
 
-/// Makes so many steps of the instance in turn. After a failure the state is as before the first.
-pub fn repeat(
+/// All repetitions.
+fn repeat_all(
     alloc: Global,
     task: &Task,
     state: &mut State,
@@ -56,4 +57,18 @@ pub fn repeat(
         return Err(failed);
     }
     Ok(())
+}
+
+/// Makes so many steps of the instance in turn. After a failure the state is as before the first.
+pub fn repeat(
+    alloc: Global,
+    task: &Task,
+    state: &mut State,
+    by: &Instance,
+    times: u128,
+) -> Result<(), RepeatFail>
+    ensures repeats { Repeats (repeated_from task.now by.now 1 times (state_of state.old)) (state_of state.old) (state_of state.new) result }
+    ensures reason { IfErr result (λ f. BreaksBy task.now (state_of state.old) by.now times f.at f.fail) }
+{
+    repeat_all(alloc, task, state, by, times)
 }

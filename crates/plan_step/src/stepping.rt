@@ -1,10 +1,11 @@
 //! One step of an instance. Begin with `step`; `make` does what comes behind the tests of the instance.
-ghost use Rattle.std.specs.Prelude.{◌<◌, ◌^◌, length, map, IfOk, IsTrue};
+ghost use Rattle.std.specs.Prelude.{◌<◌, ◌^◌, length, map, IfOk, IfErr, IsTrue};
 ghost use Rattle.plan_step.specs.Held.{state_of, KeepsPlaces};
 ghost use Rattle.plan_step.specs.Step.{made_by, step_from};
 ghost use Rattle.plan_step.specs.Fitting.{targets_of};
 ghost use Rattle.plan_step.specs.Touches.{target_in, DiffersIn};
 ghost use Rattle.plan_step.specs.Making.{Makes, WasBefore};
+ghost use Rattle.plan_step.specs.Reasons.{FailsBy};
 
 use crate::application::{apply, make_places};
 use crate::clashes::test_clashes;
@@ -81,7 +82,8 @@ pub(crate) fn step_on(
 
 /// Makes one step. After a failure the state is as before.
 pub fn step(alloc: Global, task: &Task, state: &mut State, by: &Instance) -> Result<(), StepFail>
-    ensures { Makes (step_from task.now (state_of state.old) by.now) (state_of state.old) (state_of state.new) result }
+    ensures made { Makes (step_from task.now (state_of state.old) by.now) (state_of state.old) (state_of state.new) result }
+    ensures reason { IfErr result (FailsBy task.now (state_of state.old) by.now) }
 {
     step_on(alloc, task, state, by)
 }

@@ -17,7 +17,7 @@ use sqlite_items::Items;
 use std::alloc::{AllocError, Global};
 
 /// The change of a leaf, with the truth or the value that was there before.
-#[derive(Debug, Drop)]
+#[derive(Drop)]
 pub(crate) enum Touch {
     Atom {
         sign: bool,

@@ -4,6 +4,7 @@ pub mod Finishing
 pub mod GoodPlans
 pub mod Grown
 pub mod LeastFault
+pub mod Lengths
 pub mod LineLaws
 pub mod LinesLaws
 pub mod Noting

@@ -1,8 +1,9 @@
--- How a plan is written, and how long it is.
-use Rattle.std.specs.Prelude.{◌≡◌, ℕ, ◌-◌, ◌^◌, Bool, true, ◌&&◌, nat_le, nat_lt, min, sum_by, List, [], ◌++◌, length, codes, slice_get, unwrap_or}
+-- How a plan is written, its steps one by one, and how many they are.
+use Rattle.std.specs.Prelude.{◌≡◌, ℕ, ◌-◌, ◌^◌, Bool, true, ◌&&◌, nat_le, nat_lt, min, List, [], ◌++◌, length, replicate, codes, slice_get, unwrap_or}
 use Rattle.std.specs.List.{list_all, flat_map}
 use Rattle.std.specs.Option.{option_map}
 use Rattle.std.specs.Fmt.{decimal}
+use Rattle.pddl_task.specs.declared.instance.Instance.{Instance}
 use Rattle.pddl_task.specs.declared.parts.TaskParts.{TaskParts}
 use Rattle.plan_text.specs.declared.plan.Part.{Part}
 
@@ -31,6 +32,14 @@ part_text task part =
 unfoldable pub plan_text : TaskParts → List Part → List ℕ
 plan_text task plan = flat_map (part_text task) plan
 
--- the number of its steps, where a number of 128 bits holds it, and else the last such number
+-- ---- a plan written out (PDDL 2.1): each part stands as often as it counts
+
+abbrev pub copies_of : Part → List Instance
+copies_of part = replicate part.count part.by
+
+unfoldable pub written_out : List Part → List Instance
+written_out plan = flat_map copies_of plan
+
+-- how many steps there are, where a number of 128 bits holds it, and else the last such number
 abbrev pub flat_length : List Part → ℕ
-flat_length plan = min (sum_by (λ part. part.count) plan) (2 ^ 128 - 1)
+flat_length plan = min (length (written_out plan)) (2 ^ 128 - 1)

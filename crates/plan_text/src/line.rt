@@ -50,7 +50,7 @@ fn note_first(faults: &mut FirstFault, more: FirstFault)
 }
 
 /// What was read of a text so far: the parts, or none as soon as there is a fault, and the first fault.
-#[derive(Debug, Drop)]
+#[derive(Drop)]
 pub(crate) struct Reading {
     pub(crate) found: Option<Items<Part>>,
     pub(crate) faults: FirstFault,

@@ -7,7 +7,7 @@ use pddl_task::Task;
 use std::alloc::{AllocError, Global};
 
 /// The tables of a task.
-#[derive(Debug, Drop)]
+#[derive(Drop)]
 pub(crate) struct NameTables<'a> {
     task: &'a Task,
     actions: Numbers,

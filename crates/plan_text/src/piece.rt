@@ -7,7 +7,7 @@ ghost use Rattle.plan_text.specs.inside.Pieces.{is_gap, StandsFirst};
 
 use sexpr::{Class, class_at, word_len};
 
-#[derive(Clone, Copy, Debug)]
+#[derive(Clone, Copy)]
 pub(crate) enum Kind {
     Open,
     Close,
@@ -15,7 +15,7 @@ pub(crate) enum Kind {
 }
 
 /// A word or a parenthesis, which stands at `start..end`.
-#[derive(Clone, Copy, Debug)]
+#[derive(Clone, Copy)]
 pub(crate) struct Piece {
     pub(crate) kind: Kind,
     pub(crate) start: usize,

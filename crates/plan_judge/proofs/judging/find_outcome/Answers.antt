@@ -11,11 +11,11 @@ returns-in-Err c =
     let old = state_of c.loop-i.state in
     outcome_is task c.args.plan.now (Err (part_fail (c.loop-i.i + 1) c.in-Err.fail))
     (part_fails task _ c.args.plan.now c.parts-part-items.result.now c.loop-i.i old c.parts-part-items.ensures.value c.loop-i.invariant c.part-item.result c.in-Err.fail c.loop-i-test.true c.part-item.is
-    (repeat_failed _ old (state_of c.repeat.new.state) c.in-Err.fail.at c.in-Err.fail.fail c.in-Err.ensures c.in_default-fail.not-Memory))
+    (repeat_failed _ old (state_of c.repeat.new.state) c.in-Err.fail.at c.in-Err.fail.fail c.in-Err.ensures.repeats c.in_default-fail.not-Memory))
 
 pub loop-i-preserved : goal.loop-i-preserved
 loop-i-preserved c =
-    part_made c.args.task.now _ c.args.plan.now c.parts-part-items.result.now c.loop-i.i (state_of c.loop-i.state) c.parts-part-items.ensures.value c.loop-i.invariant c.part-item.result (state_of c.repeat.new.state) c.loop-i-test.true c.part-item.is c.in_default.ensures
+    part_made c.args.task.now _ c.args.plan.now c.parts-part-items.result.now c.loop-i.i (state_of c.loop-i.state) c.parts-part-items.ensures.value c.loop-i.invariant c.part-item.result (state_of c.repeat.new.state) c.loop-i-test.true c.part-item.is c.in_default.ensures.repeats
 
 pub returns : goal.returns
 returns c =
