@@ -1,0 +1,15 @@
+pub mod Tests
+pub mod ReadLaws
+pub mod Ranges
+pub mod Hulls
+pub mod Supported
+pub mod Widened
+pub mod Reached
+pub mod Steps
+pub mod Measure
+pub mod Falls
+pub mod Ends
+pub mod Numbered
+pub mod Stops
+pub mod Wider
+pub mod FirstLaws

@@ -1,0 +1,6 @@
+pub mod Interval
+pub mod Range
+pub mod Layers
+pub mod Supported
+pub mod Named
+pub mod InLayer
