@@ -3,3 +3,4 @@ pub mod Expressions
 pub mod Conditions
 pub mod ConditionLaws
 pub mod UnreadNot
+pub mod Grammar

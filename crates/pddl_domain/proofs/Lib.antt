@@ -3,3 +3,4 @@ pub mod Effects
 pub mod Functions
 pub mod Actions
 pub mod Domains
+pub mod Grammar

@@ -1,7 +1,7 @@
 //! A domain. Begin with `read_domain`, then `read_parts`, which reads each section by a reader of its own.
 //!
 //! A section is looked for by its word, so the contents of one that isn't known or stands twice are left unread.
-ghost use Rattle.std.specs.Prelude.{◌≡◌};
+ghost use Rattle.std.specs.Prelude.{◌≡◌, IfOk, IsTrue};
 ghost use Rattle.sexpr.specs.declared.tree.Tree.{Tree};
 ghost use Rattle.sexpr.specs.declared.fault.Source.TheVariants.{Domain};
 ghost use Rattle.pddl_form.specs.Concluded.{Answers};
@@ -10,6 +10,7 @@ ghost use Rattle.pddl_form.specs.Reading.{Reads};
 ghost use Rattle.pddl_form.specs.SectionParts.{parts_of};
 ghost use Rattle.pddl_form.specs.Sections.{section_word};
 ghost use Rattle.pddl_domain.specs.Domain as domain;
+ghost use Rattle.pddl_domain.specs.Grammar.{is_domain};
 ghost use Rattle.pddl_domain.specs.inside.Made.{whole_made};
 
 use crate::action::{ActionAst, read_action};
@@ -154,7 +155,8 @@ fn read_form(
 
 /// The domain that a tree spells, or else the first fault of its shape.
 pub fn read_domain(alloc: Global, tree: &Tree) -> Result<DomainAst, TextRefusal>
-    ensures { Answers Domain (domain.domain_form tree.now) result }
+    ensures answers { Answers Domain (domain.domain_form tree.now) result }
+    ensures grammar { IfOk result (λ made. IsTrue (is_domain made)) }
 {
     let mut faults = FirstFault::new();
     match read_form(alloc, tree, &mut faults) {

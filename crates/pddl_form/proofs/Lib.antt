@@ -1,5 +1,7 @@
 pub mod Trees
 pub mod Judging
+pub mod Giving
+pub mod Grammar
 pub mod Loops
 pub mod PartsLaws
 pub mod Depth

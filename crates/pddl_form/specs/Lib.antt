@@ -12,5 +12,6 @@ pub mod Put
 pub mod Concluded
 pub mod Sections
 pub mod SectionParts
+pub mod Grammar
 pub mod inside
 pub mod Laws

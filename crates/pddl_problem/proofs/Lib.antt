@@ -1,2 +1,3 @@
 pub mod ProblemLaws
 pub mod Heads
+pub mod Grammar

@@ -1,5 +1,5 @@
 //! A problem. Begin with `read_problem`, then `read_parts`, which reads each section by a reader of its own.
-ghost use Rattle.std.specs.Prelude.{◌≡◌};
+ghost use Rattle.std.specs.Prelude.{◌≡◌, IfOk, IsTrue};
 ghost use Rattle.sexpr.specs.declared.fault.Source.TheVariants.{Problem};
 ghost use Rattle.pddl_form.specs.Reading.{Reads};
 ghost use Rattle.pddl_form.specs.Parts.{one_part};
@@ -7,6 +7,7 @@ ghost use Rattle.pddl_condition.specs.Condition.{condition_form};
 ghost use Rattle.pddl_form.specs.SectionParts.{parts_of};
 ghost use Rattle.pddl_form.specs.Concluded.{Answers};
 ghost use Rattle.pddl_problem.specs.Problem as problem;
+ghost use Rattle.pddl_problem.specs.Grammar.{is_problem};
 ghost use Rattle.pddl_problem.specs.Made as made_spec;
 
 use crate::ast::{InitAst, ProblemAst};
@@ -166,7 +167,8 @@ fn read_form(
 
 /// The problem that a tree spells, or else the first fault of its shape.
 pub fn read_problem(alloc: Global, tree: &Tree) -> Result<ProblemAst, TextRefusal>
-    ensures { Answers Problem (problem.problem_form tree.now) result }
+    ensures answers { Answers Problem (problem.problem_form tree.now) result }
+    ensures grammar { IfOk result (λ made. IsTrue (is_problem made)) }
 {
     let mut faults = FirstFault::new();
     match read_form(alloc, tree, &mut faults) {

@@ -7,4 +7,4 @@ pub returns-in-Err : goal.returns-in-Err
 returns-in-Err c = unread domain_form c.args.bytes.now source.Domain _ c.in-Err.ensures
 
 pub returns : goal.returns
-returns c = read domain_form c.args.bytes.now source.Domain _ _ c.in-Ok.ensures c.read_domain.ensures
+returns c = read domain_form c.args.bytes.now source.Domain _ _ c.in-Ok.ensures c.read_domain.ensures.answers

@@ -7,4 +7,4 @@ pub returns-in-Err : goal.returns-in-Err
 returns-in-Err c = unread problem_form c.args.bytes.now source.Problem _ c.in-Err.ensures
 
 pub returns : goal.returns
-returns c = read problem_form c.args.bytes.now source.Problem _ _ c.in-Ok.ensures c.read_problem.ensures
+returns c = read problem_form c.args.bytes.now source.Problem _ _ c.in-Ok.ensures c.read_problem.ensures.answers
