@@ -8,3 +8,4 @@ pub mod Multiples
 pub mod Substituting
 pub mod Evaluating
 pub mod ValueLaws
+pub mod Negatives

@@ -4,3 +4,4 @@ pub mod Linear
 pub mod Code
 pub mod Operations
 pub mod Made
+pub mod Negative

@@ -7,6 +7,7 @@ mod failure;
 pub mod laws;
 mod linear;
 mod multiple;
+mod negative;
 mod substitution;
 mod sum;
 
