@@ -3,8 +3,8 @@ ghost use Rattle.std.specs.Prelude.{◌<◌, ◌^◌, length, map, IfOk, IfErr, 
 ghost use Rattle.plan_step.specs.Held.{state_of, KeepsPlaces};
 ghost use Rattle.plan_step.specs.Step.{made_by, step_from};
 ghost use Rattle.plan_step.specs.Fitting.{targets_of};
-ghost use Rattle.plan_step.specs.Touches.{target_in, DiffersIn};
-ghost use Rattle.plan_step.specs.Making.{Makes, WasBefore};
+ghost use Rattle.plan_step.specs.Touches.{Answers, AreTouches, changes_of, target_in, DiffersIn};
+ghost use Rattle.plan_step.specs.Making.{changes_in, Makes, WasBefore};
 ghost use Rattle.plan_step.specs.Reasons.{FailsBy};
 
 use crate::application::{apply, make_places};
@@ -14,7 +14,7 @@ use crate::failure::StepFail;
 use crate::instance::fitting_action;
 use crate::state::State;
 use crate::touches::{Touch, touches_of};
-use pddl_task::{Action, Instance, Task};
+use pddl_task::{Action, Cond, Effect, Instance, Task};
 use sqlite_items::Items;
 use std::alloc::Global;
 
@@ -25,6 +25,25 @@ fn is_countable(action: &Action) -> bool
 {
     let most = u32::MAX as usize;
     action.conds.len() <= most && action.effs.len() <= most
+}
+
+/// What the leaves of an effect touch in this state, where the leaves of the condition hold and no two leaves clash.
+fn find_touches(
+    alloc: Global,
+    state: &State,
+    args: &[u32],
+    conds: &[Cond],
+    effs: &[Effect],
+) -> Result<Items<Touch>, StepFail>
+    requires conds { length conds.now < 2 ^ 32 }
+    requires effs { length effs.now < 2 ^ 32 }
+    ensures meant { Answers changes_of (changes_in (state_of state.now) args.now conds.now effs.now) result }
+    ensures sound { IfOk result (AreTouches (state_of state.now) args.now effs.now) }
+{
+    test_conditions(state, args, conds)?;
+    let touches = touches_of(alloc, state, args, effs)?;
+    test_clashes(alloc, touches.as_slice())?;
+    Ok(touches)
 }
 
 /// Makes a step of an instance of the action, at arguments of its types. The touches tell the state before it. More leaves
@@ -42,9 +61,9 @@ pub(crate) fn make(
     if !is_countable(action) {
         return Err(StepFail::Memory);
     }
-    test_conditions(state, args, action.conds.as_slice())?;
-    let touches = touches_of(alloc, state, args, action.effs.as_slice())?;
-    test_clashes(alloc, touches.as_slice())?;
+    let conds = action.conds.as_slice();
+    let effs = action.effs.as_slice();
+    let touches = find_touches(alloc, state, args, conds, effs)?;
     make_places(state, touches.as_slice())?;
     apply(state, touches.as_slice())?;
     Ok(touches)
