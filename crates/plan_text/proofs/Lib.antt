@@ -2,7 +2,6 @@ pub mod Arguments
 pub mod Counts
 pub mod Finishing
 pub mod GoodPlans
-pub mod Grown
 pub mod LeastFault
 pub mod Lengths
 pub mod LineLaws

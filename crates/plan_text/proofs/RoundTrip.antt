@@ -22,7 +22,7 @@ use Rattle.plan_text.specs.Written.{Call, Written, spot_at, with_name, closed_na
 use Rattle.plan_text.specs.PlanText.{names_of, malformed, miscounted, is_miscount, count_judged, found_at, numbered, instance_with, call_judged, part_with, part_judged, only, form_judged, code_judged, line_judged, plan_judged}
 use Rattle.plan_text.specs.Printed.{is_part_of, IsPlanOf, action_name, object_name, part_text, plan_text}
 use Rattle.plan_text.specs.Laws.{is_spelled, AreSpelled, HasTextCount}
-use Rattle.plan_text.specs.inside.Growing.{arguments_text}
+use Rattle.plan_text.specs.inside.Arguments.{arguments_text}
 use Rattle.plan_text.proofs.Spelling.{is_low, IsWord, word_then, spelled_word, spelled_at, name_at, IsCountText, decimal_count}
 use Rattle.plan_text.proofs.WrittenLines.{is_plain, all_code, none_foreign, plain_line}
 

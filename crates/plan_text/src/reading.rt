@@ -11,7 +11,7 @@ use crate::line::Reading;
 use crate::names::NameTables;
 use crate::plan::Plan;
 use crate::refusal::PlanRefusal;
-use pddl_form::{Fault, FirstFault};
+use pddl_form::FirstFault;
 use pddl_task::Task;
 use sqlite_items::Items;
 use std::alloc::{AllocError, Global};
@@ -49,19 +49,15 @@ fn finish(reading: Reading) -> Result<Plan, PlanRefusal>
     ensures { Finishes reading.found reading.faults result }
 {
     let Reading { found, faults } = reading;
-    match (faults.into_first(), found) {
-        (
-            Some(
-                Fault {
-                    kind,
-                    place,
-                    word: _,
-                },
-            ),
-            _,
-        ) => Err(PlanRefusal::Fault { kind, place }),
-        (None, Some(parts)) => Ok(Plan::new(parts)),
-        (None, None) => unreachable!(),
+    if let Some(fault) = faults.into_first() {
+        return Err(PlanRefusal::Fault {
+            kind: fault.kind,
+            place: fault.place,
+        });
+    }
+    match found {
+        Some(parts) => Ok(Plan::new(parts)),
+        None => unreachable!(),
     }
 }
 

@@ -1,11 +1,11 @@
 //! How a plan is written. Begin with `write_plan`; `write_part` writes a single part.
 //!
-//! A text grows piece by piece, and where memory runs out, what was written of a plan is taken back.
+//! The lines are made piece by piece in a text of their own, and then added in one piece or not at all.
 ghost use Rattle.std.specs.Prelude.{◌≡◌, ◌<◌, ◌++◌, length, nat_lt, true, codes, OnOk, OnErr};
 ghost use Rattle.std.specs.Fmt.{decimal};
 ghost use Rattle.std.specs.List.{list_all};
 ghost use Rattle.plan_text.specs.Printed.{IsPlanOf, is_part_of, action_name, object_name, part_text, plan_text};
-ghost use Rattle.plan_text.specs.inside.Growing.{Grows, arguments_text};
+ghost use Rattle.plan_text.specs.inside.Arguments.{arguments_text};
 
 use crate::plan::{Part, Plan};
 use itoa::Buffer;
@@ -14,8 +14,7 @@ use std::alloc::AllocError;
 
 /// The count, and the parenthesis behind it.
 fn put_count(count: u128, into: &mut Vec<u8>) -> Result<(), AllocError>
-    ensures ok { OnOk result (into.new.items ≡ into.old.items ++ (decimal count ++ codes " (")) }
-    ensures err { OnErr result (Grows into.old.items into.new.items) }
+    ensures { OnOk result (into.new.items ≡ into.old.items ++ (decimal count ++ codes " (")) }
 {
     let mut buffer = Buffer::new();
     into.extend_from_slice(buffer.format(count).as_bytes())?;
@@ -24,8 +23,7 @@ fn put_count(count: u128, into: &mut Vec<u8>) -> Result<(), AllocError>
 
 fn put_action(task: &Task, action: u32, into: &mut Vec<u8>) -> Result<(), AllocError>
     requires { action < length task.now.actions }
-    ensures ok { OnOk result (into.new.items ≡ into.old.items ++ action_name task.now action) }
-    ensures err { OnErr result (into.new.items ≡ into.old.items) }
+    ensures { OnOk result (into.new.items ≡ into.old.items ++ action_name task.now action) }
 {
     let name = task.actions()[action as usize].name.as_str();
     into.extend_from_slice(name.as_bytes())
@@ -33,8 +31,7 @@ fn put_action(task: &Task, action: u32, into: &mut Vec<u8>) -> Result<(), AllocE
 
 fn put_argument(task: &Task, object: u32, into: &mut Vec<u8>) -> Result<(), AllocError>
     requires { object < length task.now.objects }
-    ensures ok { OnOk result (into.new.items ≡ into.old.items ++ (codes " " ++ object_name task.now object)) }
-    ensures err { OnErr result (Grows into.old.items into.new.items) }
+    ensures { OnOk result (into.new.items ≡ into.old.items ++ (codes " " ++ object_name task.now object)) }
 {
     into.push(b' ')?;
     into.extend_from_slice(task.object_name(object).as_bytes())
@@ -42,8 +39,7 @@ fn put_argument(task: &Task, object: u32, into: &mut Vec<u8>) -> Result<(), Allo
 
 fn put_arguments(task: &Task, args: &[u32], into: &mut Vec<u8>) -> Result<(), AllocError>
     requires { list_all (λ o. nat_lt o (length task.now.objects)) args.now ≡ true }
-    ensures ok { OnOk result (into.new.items ≡ into.old.items ++ arguments_text task.now args.now) }
-    ensures err { OnErr result (Grows into.old.items into.new.items) }
+    ensures { OnOk result (into.new.items ≡ into.old.items ++ arguments_text task.now args.now) }
 {
     for object in args {
         put_argument(task, *object, into)?;
@@ -53,8 +49,7 @@ fn put_arguments(task: &Task, args: &[u32], into: &mut Vec<u8>) -> Result<(), Al
 
 fn put_part(task: &Task, part: &Part, into: &mut Vec<u8>) -> Result<(), AllocError>
     requires { is_part_of task.now part.now ≡ true }
-    ensures ok { OnOk result (into.new.items ≡ into.old.items ++ part_text task.now part.now) }
-    ensures err { OnErr result (Grows into.old.items into.new.items) }
+    ensures { OnOk result (into.new.items ≡ into.old.items ++ part_text task.now part.now) }
 {
     put_count(part.count, into)?;
     put_action(task, part.by.action, into)?;
@@ -65,8 +60,7 @@ fn put_part(task: &Task, part: &Part, into: &mut Vec<u8>) -> Result<(), AllocErr
 #[tactic(auto, unfolding(crate::specs::Printed::plan_text))]
 fn put_parts(task: &Task, parts: &[Part], into: &mut Vec<u8>) -> Result<(), AllocError>
     requires { IsPlanOf task.now parts.now }
-    ensures ok { OnOk result (into.new.items ≡ into.old.items ++ plan_text task.now parts.now) }
-    ensures err { OnErr result (Grows into.old.items into.new.items) }
+    ensures { OnOk result (into.new.items ≡ into.old.items ++ plan_text task.now parts.now) }
 {
     for part in parts {
         put_part(task, part, into)?;
@@ -80,12 +74,9 @@ pub fn write_part(task: &Task, part: &Part, into: &mut Vec<u8>) -> Result<(), Al
     ensures ok { OnOk result (into.new.items ≡ into.old.items ++ part_text task.now part.now) }
     ensures err { OnErr result (into.new.items ≡ into.old.items) }
 {
-    let len = into.len();
-    let written = put_part(task, part, into);
-    if written.is_err() {
-        into.truncate(len);
-    }
-    written
+    let mut line = Vec::new(*into.allocator());
+    put_part(task, part, &mut line)?;
+    into.extend_from_slice(line.as_slice())
 }
 
 /// Adds the lines of a plan, one for each part.
@@ -94,10 +85,7 @@ pub fn write_plan(task: &Task, plan: &Plan, into: &mut Vec<u8>) -> Result<(), Al
     ensures ok { OnOk result (into.new.items ≡ into.old.items ++ plan_text task.now plan.now) }
     ensures err { OnErr result (into.new.items ≡ into.old.items) }
 {
-    let len = into.len();
-    let written = put_parts(task, plan.parts(), into);
-    if written.is_err() {
-        into.truncate(len);
-    }
-    written
+    let mut lines = Vec::new(*into.allocator());
+    put_parts(task, plan.parts(), &mut lines)?;
+    into.extend_from_slice(lines.as_slice())
 }

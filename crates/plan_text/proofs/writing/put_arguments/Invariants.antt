@@ -1,5 +1,5 @@
 use Rattle.std.proofs.Common.{◌≡◌, ◌++◌, take}
-use Rattle.plan_text.specs.inside.Growing.{arguments_text}
+use Rattle.plan_text.specs.inside.Arguments.{arguments_text}
 use Rattle.plan_text.proofs.writing.put_arguments.Given as goal
 
 abbrev pub invariant-loop-object : goal.invariant-loop-object
