@@ -7,7 +7,7 @@ use Rattle.pddl_condition.specs.declared.condition.CondAst.{CondAst}
 use Rattle.pddl_form.specs.Faults.{first_with, shape}
 use Rattle.pddl_form.specs.Judged.{Judged, good}
 use Rattle.pddl_form.specs.Reading.{IsRead}
-use Rattle.pddl_condition.specs.Condition.{equality, negated_equality, undone_equality, same_leaf, may_follow, negation}
+use Rattle.pddl_condition.specs.Condition.{equality, negated_equality, negated_atom_equality, same_leaf, may_follow, negation}
 use Rattle.pddl_form.proofs.Loops.{read_good, read_bad, read_as, provided_as}
 
 pub equality_read : (start end : ℕ) (head : Tree) (parts : List Tree) (sides : Tree × Tree) (found : Option (Tree × Tree)) (first : Option Fault) (leaves : List CondAst)
@@ -18,9 +18,9 @@ pub negated_equality_read : (word : Tree) (sides : Tree × Tree) (found : Option
     → Some sides ≡ found → leaves ≡ same_leaf false sides → IsRead (negated_equality word found) first first (Some leaves)
 negated_equality_read word sides found first leaves is same = subst (λ (o : Option (Tree × Tree)). IsRead (negated_equality word o) first first (Some leaves)) is (read_as (good (same_leaf false sides)) first first (Some (same_leaf false sides)) (Some leaves) (read_good first (same_leaf false sides)) (ap Some same))
 
-pub undone_equality_read : {A : Type 0} (word : Tree) (start : ℕ) (sides : Tree × Tree) (found : Option (Tree × Tree)) (first new : Option Fault)
-    → Some sides ≡ found → new ≡ Some (first_with first (shape start)) → IsRead {A = A} (undone_equality word start found) first new None
-undone_equality_read {A = A} word start sides found first new is is_new = subst (λ (o : Option (Tree × Tree)). IsRead {A = A} (undone_equality word start o) first new None) is (read_bad first new (shape start) is_new)
+pub negated_atom_equality_read : {A : Type 0} (word : Tree) (start : ℕ) (sides : Tree × Tree) (found : Option (Tree × Tree)) (first new : Option Fault)
+    → Some sides ≡ found → new ≡ Some (first_with first (shape start)) → IsRead {A = A} (negated_atom_equality word start found) first new None
+negated_atom_equality_read {A = A} word start sides found first new is is_new = subst (λ (o : Option (Tree × Tree)). IsRead {A = A} (negated_atom_equality word start o) first new None) is (read_bad first new (shape start) is_new)
 
 -- nothing stands behind the word `not`
 pub negation_missing : {A : Type 0} (form : Tree → Judged A) (start end : ℕ) (parts : List Tree) (old new : Option Fault)

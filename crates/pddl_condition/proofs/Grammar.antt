@@ -8,8 +8,6 @@ use Rattle.std.proofs.lemmas.List.{length-map}
 use Rattle.std.proofs.lemmas.List.Folds.{list_all-map}
 use Rattle.sexpr.specs.declared.tree.Tree.{Tree, out-Tree}
 use Rattle.sexpr.specs.declared.tree.Tree.TheOpen.{Tree-F}
-use Rattle.sexpr.specs.declared.tree.Tree.TheVariants as tree
-use Rattle.sexpr.specs.Opened.{start_of}
 use Rattle.sexpr.proofs.Trees.{every_tree}
 use Rattle.frac128.specs.Number.{number_of}
 use Rattle.rational.specs.Fraction.{Fraction}
@@ -18,14 +16,12 @@ use Rattle.pddl_form.specs.declared.names.Sort.{Sort}
 use Rattle.pddl_form.specs.declared.names.Sort.TheVariants.{Term}
 use Rattle.pddl_form.specs.declared.spot.Spot.{Spot}
 use Rattle.pddl_form.specs.Faults.{shape}
-use Rattle.pddl_form.specs.Gather.{joined}
-use Rattle.pddl_form.specs.Grammar.{is_of, is_call}
+use Rattle.pddl_form.specs.Grammar.{is_call}
 use Rattle.pddl_form.specs.Judged.{Judged, mapped, each, at_least}
 use Rattle.pddl_form.specs.Names.{takes, is_symbol, is_one_of}
 use Rattle.pddl_form.specs.Parts.{two_parts}
 use Rattle.pddl_form.specs.Words.{word_of, spot_of}
 use Rattle.pddl_form.specs.Calls.{arguments}
-use Rattle.pddl_form.specs.Typed.{only}
 use Rattle.pddl_form.proofs.Giving.{Gives, gives-with, gives-mapped, gives-provided, gives-provision, gives-each_of, are_at_least, gives-at_least, gives-joined}
 use Rattle.pddl_form.proofs.Grammar.{is_call_of, arguments_give, two_give}
 use Rattle.pddl_condition.specs.declared.expression.ExprAst.{ExprAst}
@@ -35,10 +31,10 @@ use Rattle.pddl_condition.specs.declared.expression.ExprAst.TheFolds.{fold-ExprA
 use Rattle.pddl_condition.specs.declared.expression.Operator.{Operator}
 use Rattle.pddl_condition.specs.declared.expression.Operator.TheVariants.{Fold, Minus, Over, Function, Other}
 use Rattle.pddl_condition.specs.declared.condition.CondAst.{CondAst}
-use Rattle.pddl_condition.specs.declared.condition.Head.{Head}
-use Rattle.pddl_condition.specs.declared.condition.Head.TheVariants as head
-use Rattle.pddl_condition.specs.Expression.{number_or_fault, number_form, operator_of, other_operator, call_expression, up_to_two, operated, expression_by, headed_expression, expression_word, expression_list, expression_form}
-use Rattle.pddl_condition.specs.Condition.{orders, unread, head_of, other_head, equal_sides, same_leaf, literal_leaf, compare_leaf, comparison, equality, not_read, negated_equality, negated_by, negated_at, negated, may_follow, negation, condition_by, headed_condition, condition_list, condition_form, undone_equality, undone_by, undone_at, undone}
+use Rattle.pddl_condition.specs.declared.heads.Head.{Head}
+use Rattle.pddl_condition.specs.declared.heads.Head.TheVariants as head
+use Rattle.pddl_condition.specs.Expression.{number_or_fault, number_form, operator_of, call_expression, up_to_two, operated, expression_by, headed_expression, expression_word, expression_list, expression_form}
+use Rattle.pddl_condition.specs.Condition.{orders, unread, head_of, equal_sides, same_leaf, literal_leaf, compare_leaf, comparison, equality, negated_equality, negated_by, negated_at, negated, may_follow, negation, condition_by, headed_condition, condition_list, condition_form, negated_atom_equality, negated_atom_by, negated_atom_at, negated_atom}
 use Rattle.pddl_condition.specs.Grammar.{is_operation, expression_step, is_expression, is_relation, is_condition}
 use Rattle.pddl_condition.proofs.Expressions.{expression_form-word, expression_form-list}
 use Rattle.pddl_condition.proofs.Conditions.{condition_form-word, condition_form-list}
@@ -144,39 +140,39 @@ up_to_two_gives count start end made h =
     (gives-provided (are_at_least is_expression count (length made)) (nat_le (length made) 2) (shape start) (at_least count end made) (gives-at_least is_expression count end made h))
 
 module _ (start end : ℕ) (head : Tree) where
-  abbrev word : List ℕ
-  word = word_of head
+  abbrev op_word : List ℕ
+  op_word = word_of head
 
-  fold_gives : (made : List (Judged ExprAst)) → SaysOf Fold word → Gives (list_all is_expression) (each made) → Gives is_expression (operated head (at_least 2 end made))
+  fold_gives : (made : List (Judged ExprAst)) → SaysOf Fold op_word → Gives (list_all is_expression) (each made) → Gives is_expression (operated head (at_least 2 end made))
   fold_gives made said h =
       gives-mapped (expr.Op (spot_of head)) (are_at_least is_expression 2 (length made)) is_expression (at_least 2 end made)
       (λ args a. let c = are_counted 2 (length made) args a in
       is_expression-Op (spot_of head) args
-      ∙ and_from (is_operation word (length args)) (list_all is_expression args)
-      (fold_counts (bytes_eq word (codes "*")) (bytes_eq word (codes "+")) (bytes_eq word (codes "-")) (bytes_eq word (codes "/")) (length args) said c.enough) c.all)
+      ∙ and_from (is_operation op_word (length args)) (list_all is_expression args)
+      (fold_counts (bytes_eq op_word (codes "*")) (bytes_eq op_word (codes "+")) (bytes_eq op_word (codes "-")) (bytes_eq op_word (codes "/")) (length args) said c.enough) c.all)
       (gives-at_least is_expression 2 end made h)
 
-  minus_gives : (made : List (Judged ExprAst)) → SaysOf Minus word → Gives (list_all is_expression) (each made) → Gives is_expression (operated head (up_to_two 1 start end made))
+  minus_gives : (made : List (Judged ExprAst)) → SaysOf Minus op_word → Gives (list_all is_expression) (each made) → Gives is_expression (operated head (up_to_two 1 start end made))
   minus_gives made said h =
       gives-mapped (expr.Op (spot_of head)) (are_up_to_two 1 (length made)) is_expression (up_to_two 1 start end made)
       (λ args a. let most = and_parts (nat_le (length made) 2) (are_at_least is_expression 1 (length made) args) a in
       let c = are_counted 1 (length made) args most.1 in
       is_expression-Op (spot_of head) args
-      ∙ and_from (is_operation word (length args)) (list_all is_expression args)
-      (minus_counts (bytes_eq word (codes "*")) (bytes_eq word (codes "+")) (bytes_eq word (codes "-")) (bytes_eq word (codes "/")) (length args) said c.enough (few 1 (length made) args most.1 most.0)) c.all)
+      ∙ and_from (is_operation op_word (length args)) (list_all is_expression args)
+      (minus_counts (bytes_eq op_word (codes "*")) (bytes_eq op_word (codes "+")) (bytes_eq op_word (codes "-")) (bytes_eq op_word (codes "/")) (length args) said c.enough (few 1 (length made) args most.1 most.0)) c.all)
       (up_to_two_gives 1 start end made h)
 
-  over_gives : (made : List (Judged ExprAst)) → SaysOf Over word → Gives (list_all is_expression) (each made) → Gives is_expression (operated head (up_to_two 2 start end made))
+  over_gives : (made : List (Judged ExprAst)) → SaysOf Over op_word → Gives (list_all is_expression) (each made) → Gives is_expression (operated head (up_to_two 2 start end made))
   over_gives made said h =
       gives-mapped (expr.Op (spot_of head)) (are_up_to_two 2 (length made)) is_expression (up_to_two 2 start end made)
       (λ args a. let most = and_parts (nat_le (length made) 2) (are_at_least is_expression 2 (length made) args) a in
       let c = are_counted 2 (length made) args most.1 in
       is_expression-Op (spot_of head) args
-      ∙ and_from (is_operation word (length args)) (list_all is_expression args)
-      (over_counts (bytes_eq word (codes "*")) (bytes_eq word (codes "+")) (bytes_eq word (codes "-")) (bytes_eq word (codes "/")) (length args) said c.enough (few 2 (length made) args most.1 most.0)) c.all)
+      ∙ and_from (is_operation op_word (length args)) (list_all is_expression args)
+      (over_counts (bytes_eq op_word (codes "*")) (bytes_eq op_word (codes "+")) (bytes_eq op_word (codes "-")) (bytes_eq op_word (codes "/")) (length args) said c.enough (few 2 (length made) args most.1 most.0)) c.all)
       (up_to_two_gives 2 start end made h)
 
-  headed_by : (op : Operator) (parts : List Tree) (made : List (Judged ExprAst)) → SaysOf op word → Gives (list_all is_expression) (each made) → Gives is_expression (expression_by op start end head parts made)
+  headed_by : (op : Operator) (parts : List Tree) (made : List (Judged ExprAst)) → SaysOf op op_word → Gives (list_all is_expression) (each made) → Gives is_expression (expression_by op start end head parts made)
   headed_by Fold parts made said h = fold_gives made said h
   headed_by Minus parts made said h = minus_gives made said h
   headed_by Over parts made said h = over_gives made said h
@@ -185,7 +181,7 @@ module _ (start end : ℕ) (head : Tree) where
 
   headed_gives : (parts : List Tree) (made : List (Judged ExprAst)) → Gives (list_all is_expression) (each made) → Gives is_expression (headed_expression start end head parts made)
   unfolding headed_expression
-  headed_gives parts made h = headed_by (operator_of word) parts made (says word) h
+  headed_gives parts made h = headed_by (operator_of op_word) parts made (says op_word) h
 
 -- ---- expressions
 
@@ -347,24 +343,24 @@ condition_gives =
 
 -- ---- what stands behind a `not` where only an atom may
 
-undone_equality_gives : (p : Call → Bool) (word : Tree) (start : ℕ) (sides : Option (Tree × Tree)) → Gives p (undone_equality word start sides)
-undone_equality_gives p word start (Some sides) = tt
-undone_equality_gives p word start None = tt
+negated_atom_equality_gives : (p : Call → Bool) (word : Tree) (start : ℕ) (sides : Option (Tree × Tree)) → Gives p (negated_atom_equality word start sides)
+negated_atom_equality_gives p word start (Some sides) = tt
+negated_atom_equality_gives p word start None = tt
 
-undone_by_gives : (k : Head) (sort : Sort) (word : Tree) (start : ℕ) (h : Tree) (parts : List Tree) → HeadSaysOf k (word_of h) → Gives (is_call_of sort) (undone_by k sort word start h parts)
-undone_by_gives head.Predicate sort word start h parts said = arguments_give sort h parts said
-undone_by_gives head.Equal sort word start h parts said = undone_equality_gives (is_call_of sort) word start (equal_sides parts)
-undone_by_gives head.And sort word start h parts said = tt
-undone_by_gives head.Not sort word start h parts said = tt
-undone_by_gives head.Order sort word start h parts said = tt
-undone_by_gives head.Unread sort word start h parts said = tt
-undone_by_gives head.Other sort word start h parts said = tt
+negated_atom_by_gives : (k : Head) (sort : Sort) (word : Tree) (start : ℕ) (h : Tree) (parts : List Tree) → HeadSaysOf k (word_of h) → Gives (is_call_of sort) (negated_atom_by k sort word start h parts)
+negated_atom_by_gives head.Predicate sort word start h parts said = arguments_give sort h parts said
+negated_atom_by_gives head.Equal sort word start h parts said = negated_atom_equality_gives (is_call_of sort) word start (equal_sides parts)
+negated_atom_by_gives head.And sort word start h parts said = tt
+negated_atom_by_gives head.Not sort word start h parts said = tt
+negated_atom_by_gives head.Order sort word start h parts said = tt
+negated_atom_by_gives head.Unread sort word start h parts said = tt
+negated_atom_by_gives head.Other sort word start h parts said = tt
 
-undone_at_gives : (sort : Sort) (word : Tree) (opened : Tree-F Tree) → Gives (is_call_of sort) (undone_at sort word opened)
-undone_at_gives sort word (Tree-F.Word start end text) = tt
-undone_at_gives sort word (Tree-F.List start end []) = tt
-undone_at_gives sort word (Tree-F.List start end (h ∷ parts)) = undone_by_gives (head_of (word_of h)) sort word start h parts (head_says_of (word_of h))
+negated_atom_at_gives : (sort : Sort) (word : Tree) (opened : Tree-F Tree) → Gives (is_call_of sort) (negated_atom_at sort word opened)
+negated_atom_at_gives sort word (Tree-F.Word start end text) = tt
+negated_atom_at_gives sort word (Tree-F.List start end []) = tt
+negated_atom_at_gives sort word (Tree-F.List start end (h ∷ parts)) = negated_atom_by_gives (head_of (word_of h)) sort word start h parts (head_says_of (word_of h))
 
-pub undone_gives : (sort : Sort) (word tree : Tree) → Gives (is_call_of sort) (undone sort word tree)
-unfolding undone
-undone_gives sort word tree = undone_at_gives sort word (out-Tree tree)
+pub negated_atom_gives : (sort : Sort) (word tree : Tree) → Gives (is_call_of sort) (negated_atom sort word tree)
+unfolding negated_atom
+negated_atom_gives sort word tree = negated_atom_at_gives sort word (out-Tree tree)

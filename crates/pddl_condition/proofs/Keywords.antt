@@ -2,35 +2,25 @@
 use Rattle.std.proofs.Common.{◌≡◌, ℕ, false, List, [], ◌∷◌, refl, sym, subst}
 use Rattle.std.specs.Prelude.{codes, bytes_eq}
 use Rattle.kw_table.specs.Table.{IsAbsent}
-use Rattle.pddl_form.specs.Names.{is_one_of}
-use Rattle.pddl_form.proofs.Keywords.{other_word, isnt, none_of}
-use Rattle.pddl_condition.specs.declared.condition.Head.TheVariants.{And, Not, Equal, Order, Unread}
+use Rattle.pddl_form.proofs.Keywords.{other_word, isnt}
+use Rattle.pddl_condition.specs.declared.heads.Head.TheVariants.{And, Not, Equal}
 use Rattle.pddl_condition.specs.declared.expression.Operator.TheVariants.{Fold, Minus, Over}
-use Rattle.pddl_condition.specs.Condition.{head_of, other_head, orders, unread}
+use Rattle.pddl_condition.specs.Condition.{head_of, other_head}
 use Rattle.pddl_condition.specs.Expression.{operator_of, other_operator}
 
 -- ---- the heads of conditions
 
 pub record HeadRows : Type 0 where
-  pub less : head_of (codes "<") ≡ Order
-  pub at_most : head_of (codes "<=") ≡ Order
   pub equal : head_of (codes "=") ≡ Equal
-  pub greater : head_of (codes ">") ≡ Order
-  pub at_least : head_of (codes ">=") ≡ Order
   pub and : head_of (codes "and") ≡ And
-  pub exists : head_of (codes "exists") ≡ Unread
-  pub forall : head_of (codes "forall") ≡ Unread
-  pub imply : head_of (codes "imply") ≡ Unread
   pub not : head_of (codes "not") ≡ Not
-  pub or : head_of (codes "or") ≡ Unread
-  pub preference : head_of (codes "preference") ≡ Unread
 
 pub head_rows : HeadRows
 unfolding head_of
-head_rows = record { less = refl; at_most = refl; equal = refl; greater = refl; at_least = refl; and = refl; exists = refl; forall = refl; imply = refl; not = refl; or = refl; preference = refl }
+head_rows = record { equal = refl; and = refl; not = refl }
 
 abbrev pub heads : List (List ℕ)
-heads = codes "<" ∷ codes "<=" ∷ codes "=" ∷ codes ">" ∷ codes ">=" ∷ codes "and" ∷ codes "exists" ∷ codes "forall" ∷ codes "imply" ∷ codes "not" ∷ codes "or" ∷ codes "preference" ∷ []
+heads = codes "=" ∷ codes "and" ∷ codes "not" ∷ []
 
 no_head : (text : List ℕ) → IsAbsent text heads → head_of text ≡ other_head text
 unfolding head_of
@@ -38,9 +28,7 @@ no_head text absent =
     let and : bytes_eq text (codes "and") ≡ false = other_word text (codes "and") (λ same. isnt heads text (codes "and") absent refl (sym same)) in
     let not : bytes_eq text (codes "not") ≡ false = other_word text (codes "not") (λ same. isnt heads text (codes "not") absent refl (sym same)) in
     let equal : bytes_eq text (codes "=") ≡ false = other_word text (codes "=") (λ same. isnt heads text (codes "=") absent refl (sym same)) in
-    let order : is_one_of orders text ≡ false = none_of orders heads text refl absent in
-    let feature : is_one_of unread text ≡ false = none_of unread heads text refl absent in
-    rw (and, not, equal, order, feature)
+    rw (and, not, equal)
 
 pub no_head_read : (text bytes : List ℕ) → bytes ≡ text → IsAbsent bytes heads → head_of text ≡ other_head text
 no_head_read text bytes same absent = no_head text (subst (λ (w : List ℕ). IsAbsent w heads) same absent)

@@ -11,8 +11,8 @@ use Rattle.pddl_form.specs.declared.names.Sort.TheVariants.{Term}
 use Rattle.pddl_condition.specs.declared.expression.ExprAst.{ExprAst}
 use Rattle.pddl_condition.specs.declared.condition.CondAst.{CondAst}
 use Rattle.pddl_condition.specs.declared.condition.CondAst.TheVariants as cond
-use Rattle.pddl_condition.specs.declared.condition.Head.{Head}
-use Rattle.pddl_condition.specs.declared.condition.Head.TheVariants.{And, Not, Equal, Order, Unread, Predicate, Other}
+use Rattle.pddl_condition.specs.declared.heads.Head.{Head}
+use Rattle.pddl_condition.specs.declared.heads.Head.TheVariants.{And, Not, Equal, Order, Unread, Predicate, Other}
 use Rattle.pddl_form.specs.Faults.{shape}
 use Rattle.pddl_form.specs.Judged.{Judged, good, misshapen, lacking, unread_feature, mapped, each, provided}
 use Rattle.pddl_form.specs.Names.{is_one_of, is_symbol, takes}
@@ -30,17 +30,18 @@ orders = codes "<" ∷ codes "<=" ∷ codes ">" ∷ codes ">=" ∷ []
 abbrev pub unread : List (List ℕ)
 unread = codes "exists" ∷ codes "forall" ∷ codes "imply" ∷ codes "or" ∷ codes "preference" ∷ []
 
--- any other head
+-- any head but `and`, `not` and `=`
 abbrev pub other_head : List ℕ → Head
-other_head text = if is_symbol text then Predicate else Other
+other_head text =
+    if is_one_of orders text then Order
+    else (if is_one_of unread text then Unread
+    else (if is_symbol text then Predicate else Other))
 
 unfoldable pub head_of : List ℕ → Head
 head_of text =
     if bytes_eq text (codes "and") then And
     else (if bytes_eq text (codes "not") then Not
-    else (if bytes_eq text (codes "=") then Equal
-    else (if is_one_of orders text then Order
-    else (if is_one_of unread text then Unread else other_head text))))
+    else (if bytes_eq text (codes "=") then Equal else other_head text))
 
 -- the two sides of an equality of objects: two trees, each a name or a variable
 abbrev pub equal_sides : List Tree → Option (Tree × Tree)
@@ -98,29 +99,29 @@ unfoldable pub negated : Tree → Tree → Judged (List CondAst)
 negated word tree = negated_at word (out-Tree tree)
 
 -- `not` isn't read before a list that has a head and is neither an atom nor an equality of objects
-abbrev pub left_out_by : Head → List Tree → Bool
-left_out_by Predicate parts = false
-left_out_by Equal parts = is_none (equal_sides parts)
-left_out_by And parts = true
-left_out_by Not parts = true
-left_out_by Order parts = true
-left_out_by Unread parts = true
-left_out_by Other parts = true
+abbrev pub unread_negation_by : Head → List Tree → Bool
+unread_negation_by Predicate parts = false
+unread_negation_by Equal parts = is_none (equal_sides parts)
+unread_negation_by And parts = true
+unread_negation_by Not parts = true
+unread_negation_by Order parts = true
+unread_negation_by Unread parts = true
+unread_negation_by Other parts = true
 
-abbrev pub left_out_list : List Tree → Bool
-left_out_list [] = false
-left_out_list (head ∷ parts) = left_out_by (head_of (word_of head)) parts
+abbrev pub unread_negation_list : List Tree → Bool
+unread_negation_list [] = false
+unread_negation_list (head ∷ parts) = unread_negation_by (head_of (word_of head)) parts
 
-abbrev pub left_out_at : Tree-F Tree → Bool
-left_out_at (Tree-F.Word start end text) = false
-left_out_at (Tree-F.List start end items) = left_out_list items
+abbrev pub unread_negation_at : Tree-F Tree → Bool
+unread_negation_at (Tree-F.Word start end text) = false
+unread_negation_at (Tree-F.List start end items) = unread_negation_list items
 
-unfoldable pub is_left_out : Tree → Bool
-is_left_out tree = left_out_at (out-Tree tree)
+unfoldable pub is_unread_negation : Tree → Bool
+is_unread_negation tree = unread_negation_at (out-Tree tree)
 
 -- what may stand behind the tree that `not` stands before: nothing, or anything where `not` isn't read
 abbrev pub may_follow : Tree → List Tree → Bool
-may_follow tree more = is_left_out tree || length more == 0
+may_follow tree more = is_unread_negation tree || length more == 0
 
 -- `(not TREE)`, where this form judges the tree: a further tree is a fault of the list
 unfoldable pub negation : {A : Type 0} → (Tree → Judged A) → ℕ → ℕ → List Tree → Judged A
@@ -151,26 +152,26 @@ unfoldable pub condition_form : Tree → Judged (List CondAst)
 condition_form = tree_rec condition_word condition_list
 
 -- what stands behind the word `not` where an equality isn't of the form, as in an effect and in `:init`: an atom
-abbrev pub undone_equality : {A : Type 0} → Tree → ℕ → Option (Tree × Tree) → Judged A
-undone_equality word start (Some sides) = misshapen start
-undone_equality word start None = not_read word
+abbrev pub negated_atom_equality : {A : Type 0} → Tree → ℕ → Option (Tree × Tree) → Judged A
+negated_atom_equality word start (Some sides) = misshapen start
+negated_atom_equality word start None = not_read word
 
-abbrev pub undone_by : Head → Sort → Tree → ℕ → Tree → List Tree → Judged Call
-undone_by Predicate sort word start head parts = arguments sort head parts
-undone_by Equal sort word start head parts = undone_equality word start (equal_sides parts)
-undone_by And sort word start head parts = not_read word
-undone_by Not sort word start head parts = not_read word
-undone_by Order sort word start head parts = not_read word
-undone_by Unread sort word start head parts = not_read word
-undone_by Other sort word start head parts = not_read word
+abbrev pub negated_atom_by : Head → Sort → Tree → ℕ → Tree → List Tree → Judged Call
+negated_atom_by Predicate sort word start head parts = arguments sort head parts
+negated_atom_by Equal sort word start head parts = negated_atom_equality word start (equal_sides parts)
+negated_atom_by And sort word start head parts = not_read word
+negated_atom_by Not sort word start head parts = not_read word
+negated_atom_by Order sort word start head parts = not_read word
+negated_atom_by Unread sort word start head parts = not_read word
+negated_atom_by Other sort word start head parts = not_read word
 
-abbrev pub undone_list : Sort → Tree → ℕ → ℕ → List Tree → Judged Call
-undone_list sort word start end [] = lacking end
-undone_list sort word start end (head ∷ parts) = undone_by (head_of (word_of head)) sort word start head parts
+abbrev pub negated_atom_list : Sort → Tree → ℕ → ℕ → List Tree → Judged Call
+negated_atom_list sort word start end [] = lacking end
+negated_atom_list sort word start end (head ∷ parts) = negated_atom_by (head_of (word_of head)) sort word start head parts
 
-abbrev pub undone_at : Sort → Tree → Tree-F Tree → Judged Call
-undone_at sort word (Tree-F.Word start end text) = misshapen start
-undone_at sort word (Tree-F.List start end items) = undone_list sort word start end items
+abbrev pub negated_atom_at : Sort → Tree → Tree-F Tree → Judged Call
+negated_atom_at sort word (Tree-F.Word start end text) = misshapen start
+negated_atom_at sort word (Tree-F.List start end items) = negated_atom_list sort word start end items
 
-unfoldable pub undone : Sort → Tree → Tree → Judged Call
-undone sort word tree = undone_at sort word (out-Tree tree)
+unfoldable pub negated_atom : Sort → Tree → Tree → Judged Call
+negated_atom sort word tree = negated_atom_at sort word (out-Tree tree)

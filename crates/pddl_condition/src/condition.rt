@@ -2,7 +2,6 @@
 //! parts of an `and`.
 ghost use Rattle.std.specs.Prelude.{◌≡◌, IfOk, map, true, false};
 ghost use Rattle.std.specs.Option.{option_map};
-ghost use Rattle.kw_table.specs.Table.{Rises};
 ghost use Rattle.pddl_form.specs.Gather.{joined};
 ghost use Rattle.pddl_form.specs.Judged.{each, mapped};
 ghost use Rattle.pddl_form.specs.Reading.{Reads};
@@ -14,10 +13,10 @@ ghost use Rattle.pddl_condition.specs.Expression.{expression_form};
 ghost use Rattle.pddl_condition.specs.Condition as condition;
 
 use crate::expression::{ExprAst, read_expression};
-use kw_table::{Table, rows};
+use crate::heads::{Head, find_head};
 use pddl_form::{
-    Call, FirstFault, Sort, Spot, add_all, is_symbol, make_spot, pair, parted, provided,
-    read_arguments, takes, word,
+    Call, FirstFault, Sort, Spot, add_all, make_spot, pair, parted, provided, read_arguments,
+    takes, word,
 };
 use sexpr::Tree;
 use sqlite_items::Items;
@@ -43,76 +42,6 @@ pub enum CondAst {
         left: ExprAst,
         right: ExprAst,
     },
-}
-
-/// What the head of a list makes of it.
-#[derive(Clone, Copy, Debug, PartialEq, Eq)]
-pub enum Head {
-    And,
-    Not,
-    Equal,
-    /// `<`, `<=`, `>` and `>=`.
-    Order,
-    /// A head of conditions that aren't read.
-    Unread,
-    Predicate,
-    Other,
-}
-
-const HEADS: Table<12> = Table {
-    words: [
-        "<",
-        "<=",
-        "=",
-        ">",
-        ">=",
-        "and",
-        "exists",
-        "forall",
-        "imply",
-        "not",
-        "or",
-        "preference",
-    ],
-};
-
-/// The heads of conditions stand in byte order.
-pub fn condition_heads_rise()
-    ensures { Rises (map (λ w. w.now) HEADS.words) }
-{}
-
-/// The head of an atom, or of no condition.
-fn other_head(text: &str) -> Head
-    ensures { result ≡ condition.other_head text.now }
-{
-    if is_symbol(text) {
-        Head::Predicate
-    } else {
-        Head::Other
-    }
-}
-
-#[tactic(auto, using(crate::proofs::Keywords::head_rows))]
-fn find_head(text: &str) -> Head
-    ensures { result ≡ condition.head_of text.now }
-{
-    let table = &HEADS;
-    rows! {
-        table, text.as_bytes();
-        "<" => Head::Order,
-        "<=" => Head::Order,
-        "=" => Head::Equal,
-        ">" => Head::Order,
-        ">=" => Head::Order,
-        "and" => Head::And,
-        "exists" => Head::Unread,
-        "forall" => Head::Unread,
-        "imply" => Head::Unread,
-        "not" => Head::Not,
-        "or" => Head::Unread,
-        "preference" => Head::Unread;
-        else => other_head(text)
-    }
 }
 
 /// The two sides of an equality of objects.
@@ -306,9 +235,9 @@ fn read_negated(
 }
 
 /// Whether `not` isn't read before this tree.
-#[tactic(auto, unfolding(crate::specs::Condition::is_left_out))]
-fn is_left_out(tree: &Tree) -> bool
-    ensures { result ≡ condition.is_left_out tree.now }
+#[tactic(auto, unfolding(crate::specs::Condition::is_unread_negation))]
+fn is_unread_negation(tree: &Tree) -> bool
+    ensures { result ≡ condition.is_unread_negation tree.now }
 {
     let Tree::List { items, .. } = tree else {
         return false;
@@ -327,7 +256,7 @@ fn is_left_out(tree: &Tree) -> bool
 fn may_follow(tree: &Tree, more: &[Tree]) -> bool
     ensures { result ≡ condition.may_follow tree.now more.now }
 {
-    is_left_out(tree) || more.is_empty()
+    is_unread_negation(tree) || more.is_empty()
 }
 
 /// `(not CONDITION)`, of which the condition is given.
@@ -431,14 +360,14 @@ pub fn read_condition(
     }
 }
 
-fn read_undone_equality(
+fn read_equality_behind_not(
     alloc: Global,
     not: &Tree,
     start: u32,
     parts: &[Tree],
     faults: &mut FirstFault,
 ) -> Result<Option<Call>, AllocError>
-    ensures { Reads (condition.undone_equality not.now start (condition.equal_sides parts.now)) faults.old faults.new result }
+    ensures { Reads (condition.negated_atom_equality not.now start (condition.equal_sides parts.now)) faults.old faults.new result }
 {
     match equal_sides(parts) {
         Some(_) => {
@@ -450,7 +379,7 @@ fn read_undone_equality(
 }
 
 #[tactic(auto, unfolding(pddl_form::specs::Judged::noted))]
-fn read_undone_list(
+fn read_list_behind_not(
     alloc: Global,
     sort: Sort,
     not: &Tree,
@@ -459,7 +388,7 @@ fn read_undone_list(
     items: &[Tree],
     faults: &mut FirstFault,
 ) -> Result<Option<Call>, AllocError>
-    ensures { Reads (condition.undone_list sort not.now start end items.now) faults.old faults.new result }
+    ensures { Reads (condition.negated_atom_list sort not.now start end items.now) faults.old faults.new result }
 {
     let [head, parts @ ..] = items else {
         faults.lacking(alloc, end);
@@ -467,7 +396,7 @@ fn read_undone_list(
     };
     match find_head(word(head)) {
         Head::Predicate => read_arguments(alloc, sort, head, parts, faults),
-        Head::Equal => read_undone_equality(alloc, not, start, parts, faults),
+        Head::Equal => read_equality_behind_not(alloc, not, start, parts, faults),
         Head::And | Head::Not | Head::Order | Head::Unread | Head::Other => {
             note_unread(alloc, not, faults)
         }
@@ -475,15 +404,15 @@ fn read_undone_list(
 }
 
 /// What stands behind the word `not` where only atoms may be negated: an atom, with arguments of a sort.
-#[tactic(auto, unfolding(crate::specs::Condition::undone, pddl_form::specs::Judged::noted))]
-fn read_undone_atom(
+#[tactic(auto, unfolding(crate::specs::Condition::negated_atom, pddl_form::specs::Judged::noted))]
+fn read_atom_behind_not(
     alloc: Global,
     sort: Sort,
     not: &Tree,
     tree: &Tree,
     faults: &mut FirstFault,
 ) -> Result<Option<Call>, AllocError>
-    ensures { Reads (condition.undone sort not.now tree.now) faults.old faults.new result }
+    ensures { Reads (condition.negated_atom sort not.now tree.now) faults.old faults.new result }
 {
     match tree {
         Tree::Word { start, .. } => {
@@ -491,13 +420,13 @@ fn read_undone_atom(
             Ok(None)
         }
         Tree::List { start, end, items } => {
-            read_undone_list(alloc, sort, not, *start, *end, items.as_slice(), faults)
+            read_list_behind_not(alloc, sort, not, *start, *end, items.as_slice(), faults)
         }
     }
 }
 
 /// `(not ATOM)`, of which the atom is given.
-pub fn read_undone(
+pub fn read_negated_atom(
     alloc: Global,
     sort: Sort,
     start: u32,
@@ -506,13 +435,13 @@ pub fn read_undone(
     parts: &[Tree],
     faults: &mut FirstFault,
 ) -> Result<Option<Call>, AllocError>
-    ensures { Reads (condition.negation (condition.undone sort not.now) start end parts.now) faults.old faults.new result }
+    ensures { Reads (condition.negation (condition.negated_atom sort not.now) start end parts.now) faults.old faults.new result }
 {
     let Some((first, more)) = parted(parts) else {
         faults.lacking(alloc, end);
         return Ok(None);
     };
-    let call = read_undone_atom(alloc, sort, not, first, faults)?;
+    let call = read_atom_behind_not(alloc, sort, not, first, faults)?;
     let fits = may_follow(first, more);
     Ok(provided(alloc, fits, start, call, faults))
 }

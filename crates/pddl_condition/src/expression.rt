@@ -28,7 +28,7 @@ pub enum ExprAst {
 }
 
 /// What the head of a list makes of it.
-#[derive(Clone, Copy, Debug, PartialEq, Eq)]
+#[derive(Clone, Copy)]
 pub enum Operator {
     /// `+` and `*`, of two or more arguments.
     Fold,

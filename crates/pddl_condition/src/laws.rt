@@ -3,7 +3,7 @@ ghost use Rattle.std.specs.Prelude.{◌≡◌, ℕ, List, ◌∷◌, true};
 ghost use Rattle.sexpr.specs.declared.tree.Tree.{Tree};
 ghost use Rattle.pddl_form.specs.declared.names.Sort.{Sort};
 ghost use Rattle.pddl_form.specs.Laws.{HasOneSyntax};
-ghost use Rattle.pddl_condition.specs.Condition.{condition_form, is_left_out, negated, negation, not_read, undone};
+ghost use Rattle.pddl_condition.specs.Condition.{condition_form, is_unread_negation, negated, negation, not_read, negated_atom};
 ghost use Rattle.pddl_condition.specs.Expression.{expression_form};
 
 /// A tree without a fault has one syntax as a condition.
@@ -18,6 +18,6 @@ pub fn one_expression()
 
 /// A `not` that isn't read is the one fault of its list, whatever stands behind the tree.
 pub fn unread_not_is_one_fault()
-    ensures of_conditions { (start end : ℕ) (word tree : Tree) (more : List Tree) → is_left_out tree ≡ true → negation (negated word) start end (tree ∷ more) ≡ not_read word }
-    ensures of_atoms { (sort : Sort) (start end : ℕ) (word tree : Tree) (more : List Tree) → is_left_out tree ≡ true → negation (undone sort word) start end (tree ∷ more) ≡ not_read word }
+    ensures of_conditions { (start end : ℕ) (word tree : Tree) (more : List Tree) → is_unread_negation tree ≡ true → negation (negated word) start end (tree ∷ more) ≡ not_read word }
+    ensures of_atoms { (sort : Sort) (start end : ℕ) (word tree : Tree) (more : List Tree) → is_unread_negation tree ≡ true → negation (negated_atom sort word) start end (tree ∷ more) ≡ not_read word }
 {}

@@ -5,8 +5,10 @@
 
 mod condition;
 mod expression;
+mod heads;
 mod laws;
 
-pub use condition::{CondAst, condition_heads_rise, note_unread, read_condition, read_undone};
+pub use condition::{CondAst, note_unread, read_condition, read_negated_atom};
 pub use expression::{ExprAst, operators_rise, read_expression, read_number};
+pub use heads::condition_heads_rise;
 pub use laws::{one_condition, one_expression, unread_not_is_one_fault};

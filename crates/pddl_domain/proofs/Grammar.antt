@@ -1,5 +1,5 @@
 -- What the form of a domain gives is of the grammar.
-use Rattle.std.proofs.Common.{◌≡◌, ℕ, Bool, true, false, List, [], ◌∷◌, ◌++◌, map, Option, Some, None, refl, sym, ap, subst}
+use Rattle.std.proofs.Common.{◌≡◌, ℕ, Bool, true, false, List, [], ◌∷◌, ◌++◌, map, refl, sym, subst}
 use Rattle.std.specs.Prelude.{if◌then◌else◌, codes, bytes_eq, ◌&&◌}
 use Rattle.std.specs.List.{list_all}
 use Rattle.std.proofs.lemmas.Bool.{and_parts, and_from}
@@ -20,29 +20,27 @@ use Rattle.pddl_form.specs.Names.{is_symbol, is_one_of}
 use Rattle.pddl_form.specs.Parts.{two_parts}
 use Rattle.pddl_form.specs.Put.{put_all}
 use Rattle.pddl_form.specs.Typed.{only, typed_list}
-use Rattle.pddl_form.specs.Words.{word_of, spot_of, is_word, word_form}
+use Rattle.pddl_form.specs.Words.{word_of, is_word, word_form}
 use Rattle.pddl_form.specs.Sections.{Contents, Definition, section_with, sections_with, second, sections_form, requirements_form, title_form, definition_form}
-use Rattle.pddl_form.proofs.Giving.{Gives, gives-any, gives-mapped, gives-both, gives-besides, gives-provided, gives-if, gives-each, gives-each_of, gives-joined, gives-contents, gives-and_then}
+use Rattle.pddl_form.proofs.Giving.{Gives, gives-any, gives-mapped, gives-both, gives-provided, gives-if, gives-each, gives-each_of, gives-joined, gives-contents, gives-and_then}
 use Rattle.pddl_form.proofs.Grammar.{word_gives, is_call_of, arguments_give, call_gives, two_give, typed_list_gives, appended_all, title_gives}
-use Rattle.pddl_condition.specs.declared.expression.ExprAst.{ExprAst}
-use Rattle.pddl_condition.specs.Condition.{negation, undone, not_read, condition_form}
+use Rattle.pddl_condition.specs.Condition.{negation, negated_atom, condition_form}
 use Rattle.pddl_condition.specs.Expression.{expression_form}
 use Rattle.pddl_condition.specs.Grammar.{is_expression, is_condition}
-use Rattle.pddl_condition.proofs.Grammar.{expression_gives, condition_gives, negation_gives, undone_gives}
+use Rattle.pddl_condition.proofs.Grammar.{expression_gives, condition_gives, negation_gives, negated_atom_gives}
 use Rattle.pddl_domain.specs.declared.action.ActionAst.{ActionAst}
 use Rattle.pddl_domain.specs.declared.action.Key.{Key}
 use Rattle.pddl_domain.specs.declared.action.Key.TheVariants as key
 use Rattle.pddl_domain.specs.declared.action.Part.{Part}
 use Rattle.pddl_domain.specs.declared.action.Part.TheVariants as part
 use Rattle.pddl_domain.specs.declared.action.SeenKeys.{SeenKeys}
-use Rattle.pddl_domain.specs.declared.domain.DomainAst.{DomainAst}
 use Rattle.pddl_domain.specs.declared.effect.EffAst.{EffAst}
-use Rattle.pddl_domain.specs.declared.effect.EffectHead.{EffectHead}
-use Rattle.pddl_domain.specs.declared.effect.EffectHead.TheVariants.{And, Not, Change, Unread, Predicate, Other}
+use Rattle.pddl_domain.specs.declared.effect_heads.EffectHead.{EffectHead}
+use Rattle.pddl_domain.specs.declared.effect_heads.EffectHead.TheVariants.{And, Not, Change, Unread, Predicate, Other}
 use Rattle.pddl_domain.specs.declared.head.Head.{Head}
 use Rattle.pddl_domain.specs.Action.{key_of, no_keys, see_key, is_wrong_key, parameters_at, parameters_form, part_by, part_form, lone_key, parts_behind, with_part, bare_action, action_form}
 use Rattle.pddl_domain.specs.Domain.{listed, names_in, types_section, constants_section, heads_in, predicates_section, functions_in, functions_section, action_in, actions_section, domain_of, whole, read_sections, domain_parts, domain_form}
-use Rattle.pddl_domain.specs.Effect.{changes, unread_effects, other_effect_head, effect_head_of, put_leaf, change_leaf, change, effect_by, headed_effect, effect_list, effect_form}
+use Rattle.pddl_domain.specs.Effect.{changes, unread_effects, effect_head_of, put_leaf, change_leaf, change, effect_by, headed_effect, effect_list, effect_form}
 use Rattle.pddl_domain.specs.Heads.{headed, head_at, head_form, number_at, number_mark, functions_behind, behind_dash, functions}
 use Rattle.pddl_domain.specs.Grammar.{is_effect, is_head, is_action, are_declarations, is_domain}
 use Rattle.pddl_domain.proofs.Effects.{effect_form-word, effect_form-list}
@@ -95,7 +93,7 @@ change_gives start end head parts changing =
 effect_by_gives : (k : EffectHead) (start end : ℕ) (head : Tree) (parts : List Tree) (leaves : List (Judged (List EffAst)))
     → SaysOf k (word_of head) → Gives (list_all are_effects) (each leaves) → GivesLeaves (effect_by k start end head parts leaves)
 effect_by_gives And start end head parts leaves said all = gives-joined is_effect (each leaves) all
-effect_by_gives Not start end head parts leaves said all = put_gives false (negation (undone Term head) start end parts) (negation_gives (undone Term head) (is_call_of Term) (undone_gives Term head) start end parts)
+effect_by_gives Not start end head parts leaves said all = put_gives false (negation (negated_atom Term head) start end parts) (negation_gives (negated_atom Term head) (is_call_of Term) (negated_atom_gives Term head) start end parts)
 effect_by_gives Change start end head parts leaves said all = change_gives start end head parts said
 effect_by_gives Unread start end head parts leaves said all = tt
 effect_by_gives Predicate start end head parts leaves said all = put_gives true (arguments Term head parts) (arguments_give Term head parts said)

@@ -2,41 +2,31 @@
 use Rattle.std.proofs.Common.{◌≡◌, ℕ, List, [], ◌∷◌, Some, false, refl, sym, ◌∙◌, ap, subst}
 use Rattle.std.specs.Prelude.{codes, bytes_eq, slice_get}
 use Rattle.kw_table.specs.Table.{IsAbsent}
-use Rattle.pddl_form.specs.Names.{is_one_of}
-use Rattle.pddl_form.proofs.Keywords.{other_word, isnt, none_of}
+use Rattle.pddl_form.proofs.Keywords.{other_word, isnt}
 use Rattle.pddl_domain.specs.declared.action.Key.TheVariants.{Parameters, Precondition, Effect, Unknown}
-use Rattle.pddl_domain.specs.declared.effect.EffectHead.TheVariants.{And, Not, Change, Unread}
+use Rattle.pddl_domain.specs.declared.effect_heads.EffectHead.TheVariants.{And, Not}
 use Rattle.pddl_domain.specs.Action.{key_of}
-use Rattle.pddl_domain.specs.Effect.{effect_head_of, other_effect_head, changes, unread_effects}
+use Rattle.pddl_domain.specs.Effect.{effect_head_of, other_effect_head}
 
 -- ---- the heads of effects
 
 pub record EffectHeadRows : Type 0 where
   pub and : effect_head_of (codes "and") ≡ And
-  pub assign : effect_head_of (codes "assign") ≡ Change
-  pub decrease : effect_head_of (codes "decrease") ≡ Change
-  pub forall : effect_head_of (codes "forall") ≡ Unread
-  pub increase : effect_head_of (codes "increase") ≡ Change
   pub not : effect_head_of (codes "not") ≡ Not
-  pub scale_down : effect_head_of (codes "scale-down") ≡ Change
-  pub scale_up : effect_head_of (codes "scale-up") ≡ Change
-  pub when : effect_head_of (codes "when") ≡ Unread
 
 pub effect_head_rows : EffectHeadRows
 unfolding effect_head_of
-effect_head_rows = record { and = refl; assign = refl; decrease = refl; forall = refl; increase = refl; not = refl; scale_down = refl; scale_up = refl; when = refl }
+effect_head_rows = record { and = refl; not = refl }
 
 abbrev pub heads : List (List ℕ)
-heads = codes "and" ∷ codes "assign" ∷ codes "decrease" ∷ codes "forall" ∷ codes "increase" ∷ codes "not" ∷ codes "scale-down" ∷ codes "scale-up" ∷ codes "when" ∷ []
+heads = codes "and" ∷ codes "not" ∷ []
 
 no_head : (text : List ℕ) → IsAbsent text heads → effect_head_of text ≡ other_effect_head text
 unfolding effect_head_of
 no_head text absent =
     let and : bytes_eq text (codes "and") ≡ false = other_word text (codes "and") (λ same. isnt heads text (codes "and") absent refl (sym same)) in
     let not : bytes_eq text (codes "not") ≡ false = other_word text (codes "not") (λ same. isnt heads text (codes "not") absent refl (sym same)) in
-    let change : is_one_of changes text ≡ false = none_of changes heads text refl absent in
-    let feature : is_one_of unread_effects text ≡ false = none_of unread_effects heads text refl absent in
-    rw (and, not, change, feature)
+    rw (and, not)
 
 pub no_head_read : (text bytes : List ℕ) → bytes ≡ text → IsAbsent bytes heads → effect_head_of text ≡ other_effect_head text
 no_head_read text bytes same absent = no_head text (subst (λ (w : List ℕ). IsAbsent w heads) same absent)

@@ -4,3 +4,5 @@ pub mod Functions
 pub mod Actions
 pub mod Domains
 pub mod Grammar
+pub mod FunctionGroups
+pub mod KeyValues

@@ -13,12 +13,12 @@ use Rattle.pddl_form.specs.Typed.{only}
 use Rattle.pddl_form.specs.Parts.{two_parts}
 use Rattle.pddl_condition.specs.Expression.{expression_form}
 use Rattle.pddl_form.specs.Names.{is_one_of}
-use Rattle.pddl_condition.specs.Condition.{not_read, undone, negation}
+use Rattle.pddl_condition.specs.Condition.{not_read, negated_atom, negation}
 use Rattle.pddl_form.specs.Recursion.{tree_rec}
 use Rattle.pddl_domain.specs.declared.effect.EffAst.{EffAst}
 use Rattle.pddl_domain.specs.declared.effect.EffAst.TheVariants as eff
-use Rattle.pddl_domain.specs.declared.effect.EffectHead.{EffectHead}
-use Rattle.pddl_domain.specs.declared.effect.EffectHead.TheVariants.{And, Not, Change, Unread, Predicate, Other}
+use Rattle.pddl_domain.specs.declared.effect_heads.EffectHead.{EffectHead}
+use Rattle.pddl_domain.specs.declared.effect_heads.EffectHead.TheVariants.{And, Not, Change, Unread, Predicate, Other}
 
 -- the operators that change a function
 abbrev pub changes : List (List ℕ)
@@ -28,17 +28,18 @@ changes = codes "assign" ∷ codes "decrease" ∷ codes "increase" ∷ codes "sc
 abbrev pub unread_effects : List (List ℕ)
 unread_effects = codes "forall" ∷ codes "when" ∷ []
 
--- any other head
+-- any head but `and` and `not`
 abbrev pub other_effect_head : List ℕ → EffectHead
-other_effect_head text = if is_symbol text then Predicate else Other
+other_effect_head text =
+    if is_one_of changes text then Change
+    else (if is_one_of unread_effects text then Unread
+    else (if is_symbol text then Predicate else Other))
 
 -- what a head makes of a list
 unfoldable pub effect_head_of : List ℕ → EffectHead
 effect_head_of text =
     if bytes_eq text (codes "and") then And
-    else (if bytes_eq text (codes "not") then Not
-    else (if is_one_of changes text then Change
-    else (if is_one_of unread_effects text then Unread else other_effect_head text)))
+    else (if bytes_eq text (codes "not") then Not else other_effect_head text)
 
 -- an atom that becomes true or false
 abbrev pub put_leaf : Bool → Call → List EffAst
@@ -55,7 +56,7 @@ change start end head parts = mapped (change_leaf head) (two_parts (call_form Te
 -- a list with this head, these trees behind it and what an effect makes of each of them
 abbrev pub effect_by : EffectHead → ℕ → ℕ → Tree → List Tree → List (Judged (List EffAst)) → Judged (List EffAst)
 effect_by And start end head parts leaves = mapped joined (each leaves)
-effect_by Not start end head parts leaves = mapped (put_leaf false) (negation (undone Term head) start end parts)
+effect_by Not start end head parts leaves = mapped (put_leaf false) (negation (negated_atom Term head) start end parts)
 effect_by Change start end head parts leaves = change start end head parts
 effect_by Unread start end head parts leaves = not_read head
 effect_by Predicate start end head parts leaves = mapped (put_leaf true) (arguments Term head parts)

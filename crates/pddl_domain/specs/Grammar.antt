@@ -1,6 +1,6 @@
 -- A domain in the words of the grammar (this project's profile of PDDL 2.1, level 2): what `read_domain` promises of the
 -- syntax that it makes.
-use Rattle.std.specs.Prelude.{ℕ, Bool, ◌&&◌, List}
+use Rattle.std.specs.Prelude.{Bool, ◌&&◌}
 use Rattle.std.specs.List.{list_all}
 use Rattle.pddl_form.specs.declared.names.Sort.TheVariants.{Name, Variable, Term}
 use Rattle.pddl_form.specs.Grammar.{is_of, is_call, is_typed}

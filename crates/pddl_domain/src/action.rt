@@ -26,7 +26,7 @@ pub struct ActionAst {
     pub effs: Items<EffAst>,
 }
 
-#[derive(Clone, Copy, Debug, PartialEq, Eq)]
+#[derive(Clone, Copy)]
 pub enum Key {
     Parameters,
     Precondition,
@@ -35,7 +35,7 @@ pub enum Key {
 }
 
 /// A key's value.
-#[derive(Debug, Drop)]
+#[derive(Drop)]
 pub enum Part {
     Parameters(Items<Typed>),
     Precondition(Items<CondAst>),
@@ -43,7 +43,7 @@ pub enum Part {
 }
 
 /// Which keys stood in front.
-#[derive(Clone, Copy, Debug, PartialEq, Eq)]
+#[derive(Clone, Copy)]
 pub struct SeenKeys {
     pub parameters: bool,
     pub precondition: bool,

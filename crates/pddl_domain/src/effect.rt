@@ -1,23 +1,22 @@
 //! Effects, each as the list of its leaves in text order. Begin with `read_effect`, which calls itself on the parts of
 //! an `and`.
 ghost use Rattle.std.specs.Prelude.{◌≡◌, IfOk, map, true, false};
-ghost use Rattle.kw_table.specs.Table.{Rises};
 ghost use Rattle.pddl_form.specs.Gather.{joined};
 ghost use Rattle.pddl_form.specs.Judged.{each, mapped};
 ghost use Rattle.pddl_form.specs.Reading.{Reads};
 ghost use Rattle.pddl_form.specs.Calls.{arguments, call_form};
-ghost use Rattle.pddl_condition.specs.Condition.{negation, undone};
+ghost use Rattle.pddl_condition.specs.Condition.{negation, negated_atom};
 ghost use Rattle.pddl_condition.specs.Expression.{expression_form};
 ghost use Rattle.pddl_form.specs.Parts.{two_parts};
 ghost use Rattle.pddl_form.specs.Typed.{only};
 ghost use Rattle.pddl_form.specs.declared.names.Sort.TheVariants.{Term};
 ghost use Rattle.pddl_domain.specs.Effect as effect;
 
-use kw_table::{Table, rows};
-use pddl_condition::{ExprAst, note_unread, read_expression, read_undone};
+use crate::effect_heads::{EffectHead, find_head};
+use pddl_condition::{ExprAst, note_unread, read_expression, read_negated_atom};
 use pddl_form::{
-    Call, FirstFault, Sort, Spot, add_all, is_symbol, make_spot, pair, parted, provided,
-    read_arguments, read_call, word,
+    Call, FirstFault, Sort, Spot, add_all, make_spot, pair, parted, provided, read_arguments,
+    read_call, word,
 };
 use sexpr::Tree;
 use sqlite_items::Items;
@@ -39,68 +38,6 @@ pub enum EffAst {
         args: Items<Spot>,
         by: ExprAst,
     },
-}
-
-/// What the head of a list makes of it.
-#[derive(Clone, Copy, Debug, PartialEq, Eq)]
-pub enum EffectHead {
-    And,
-    Not,
-    Change,
-    /// A head of effects that aren't read.
-    Unread,
-    Predicate,
-    Other,
-}
-
-const HEADS: Table<9> = Table {
-    words: [
-        "and",
-        "assign",
-        "decrease",
-        "forall",
-        "increase",
-        "not",
-        "scale-down",
-        "scale-up",
-        "when",
-    ],
-};
-
-/// The heads of effects stand in byte order.
-pub fn effect_heads_rise()
-    ensures { Rises (map (λ w. w.now) HEADS.words) }
-{}
-
-/// The head of an atom, or of no effect.
-fn other_head(text: &str) -> EffectHead
-    ensures { result ≡ effect.other_effect_head text.now }
-{
-    if is_symbol(text) {
-        EffectHead::Predicate
-    } else {
-        EffectHead::Other
-    }
-}
-
-#[tactic(auto, using(crate::proofs::Keywords::effect_head_rows))]
-fn find_head(text: &str) -> EffectHead
-    ensures { result ≡ effect.effect_head_of text.now }
-{
-    let table = &HEADS;
-    rows! {
-        table, text.as_bytes();
-        "and" => EffectHead::And,
-        "assign" => EffectHead::Change,
-        "decrease" => EffectHead::Change,
-        "forall" => EffectHead::Unread,
-        "increase" => EffectHead::Change,
-        "not" => EffectHead::Not,
-        "scale-down" => EffectHead::Change,
-        "scale-up" => EffectHead::Change,
-        "when" => EffectHead::Unread;
-        else => other_head(text)
-    }
 }
 
 fn one_leaf(alloc: Global, leaf: EffAst) -> Result<Items<EffAst>, AllocError>
@@ -143,9 +80,9 @@ fn read_deletion(
     parts: &[Tree],
     faults: &mut FirstFault,
 ) -> Result<Option<Items<EffAst>>, AllocError>
-    ensures { Reads (mapped (effect.put_leaf false) (negation (undone Term not.now) start end parts.now)) faults.old faults.new result }
+    ensures { Reads (mapped (effect.put_leaf false) (negation (negated_atom Term not.now) start end parts.now)) faults.old faults.new result }
 {
-    let Some(call) = read_undone(alloc, Sort::Term, start, end, not, parts, faults)? else {
+    let Some(call) = read_negated_atom(alloc, Sort::Term, start, end, not, parts, faults)? else {
         return Ok(None);
     };
     let Call { name, args } = call;

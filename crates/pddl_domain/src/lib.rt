@@ -8,11 +8,15 @@
 mod action;
 mod domain;
 mod effect;
+mod effect_heads;
 mod head;
+mod laws;
 
 pub use action::{ActionAst, action_keys_rise};
 pub use domain::{DomainAst, one_domain, read_domain};
-pub use effect::{EffAst, effect_heads_rise};
+pub use effect::EffAst;
+pub use effect_heads::effect_heads_rise;
 pub use head::{Head, number_rises};
+pub use laws::{functions_are_groups, parts_stand_in_turn};
 pub use pddl_condition::{CondAst, ExprAst};
 pub use pddl_form::{Spot, Typed};

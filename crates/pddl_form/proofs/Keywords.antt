@@ -8,11 +8,11 @@ use Rattle.std.proofs.lemmas.Slice.Eq.{bytes_eq-Decides}
 use Rattle.kw_table.specs.Table.{IsAbsent, Finds}
 use Rattle.sexpr.specs.declared.fault.Source.{Source}
 use Rattle.sexpr.specs.declared.fault.Source.TheVariants as source
-use Rattle.pddl_form.specs.declared.sections.Kind.{Kind}
-use Rattle.pddl_form.specs.declared.sections.Kind.TheVariants.{Many, Once, Unknown}
-use Rattle.pddl_form.specs.declared.sections.Kind.TheVariants as kind
-use Rattle.pddl_form.specs.Sections.{section_words, kinds_of, kind_of, many as many_in, once as once_in, unread_sections}
+use Rattle.pddl_form.specs.declared.kinds.Kind.TheVariants.{Many, Once, Unknown}
+use Rattle.pddl_form.specs.declared.kinds.Kind.TheVariants as kind
+use Rattle.pddl_form.specs.Sections.{section_words, kind_of, many as many_in, once as once_in}
 use Rattle.pddl_form.specs.Names.{is_one_of}
+use Rattle.pddl_form.specs.inside.Kinds.{other_kind}
 
 -- ---- words that a table has, and others
 
@@ -60,46 +60,50 @@ none_of (w ∷ some) words text all absent =
 
 -- ---- the words of sections
 
-pub record KindRows : Type 0 where
-  pub action : kinds_of (codes ":action") ≡ (Many, Unknown)
-  pub constants : kinds_of (codes ":constants") ≡ (Once, Unknown)
-  pub constraints : kinds_of (codes ":constraints") ≡ (kind.Unread, kind.Unread)
-  pub derived : kinds_of (codes ":derived") ≡ (kind.Unread, kind.Unread)
-  pub domain : kinds_of (codes ":domain") ≡ (Unknown, Once)
-  pub durative_action : kinds_of (codes ":durative-action") ≡ (kind.Unread, kind.Unread)
-  pub event : kinds_of (codes ":event") ≡ (kind.Unread, kind.Unread)
-  pub functions : kinds_of (codes ":functions") ≡ (Once, Unknown)
-  pub goal : kinds_of (codes ":goal") ≡ (Unknown, Once)
-  pub init : kinds_of (codes ":init") ≡ (Unknown, Once)
-  pub length : kinds_of (codes ":length") ≡ (Unknown, Once)
-  pub metric : kinds_of (codes ":metric") ≡ (Unknown, Once)
-  pub objects : kinds_of (codes ":objects") ≡ (Unknown, Once)
-  pub predicates : kinds_of (codes ":predicates") ≡ (Once, Unknown)
-  pub process : kinds_of (codes ":process") ≡ (kind.Unread, kind.Unread)
-  pub requirements : kinds_of (codes ":requirements") ≡ (Once, Once)
-  pub types : kinds_of (codes ":types") ≡ (Once, Unknown)
+pub record DomainRows : Type 0 where
+  pub action : kind_of source.Domain (codes ":action") ≡ Many
+  pub constants : kind_of source.Domain (codes ":constants") ≡ Once
+  pub functions : kind_of source.Domain (codes ":functions") ≡ Once
+  pub predicates : kind_of source.Domain (codes ":predicates") ≡ Once
+  pub requirements : kind_of source.Domain (codes ":requirements") ≡ Once
+  pub types : kind_of source.Domain (codes ":types") ≡ Once
 
-pub kind_rows : KindRows
+pub domain_rows : DomainRows
 unfolding kind_of
-kind_rows = record { action = refl; constants = refl; constraints = refl; derived = refl; domain = refl; durative_action = refl; event = refl; functions = refl; goal = refl; init = refl; length = refl; metric = refl; objects = refl; predicates = refl; process = refl; requirements = refl; types = refl }
+domain_rows = record { action = refl; constants = refl; functions = refl; predicates = refl; requirements = refl; types = refl }
 
-no_kind_in : (text : List ℕ) → IsAbsent text section_words → (file : Source) → kind_of file text ≡ Unknown
+abbrev of_domain : List (List ℕ)
+of_domain = codes ":action" ∷ codes ":constants" ∷ codes ":functions" ∷ codes ":predicates" ∷ codes ":requirements" ∷ codes ":types" ∷ []
+
+pub no_domain_kind : (text bytes : List ℕ) → bytes ≡ text → IsAbsent bytes of_domain → kind_of source.Domain text ≡ other_kind text
 unfolding kind_of
-no_kind_in text absent source.Domain =
-    let many : is_one_of (many_in source.Domain) text ≡ false = none_of (many_in source.Domain) section_words text refl absent in
-    let once : is_one_of (once_in source.Domain) text ≡ false = none_of (once_in source.Domain) section_words text refl absent in
-    let feature : is_one_of unread_sections text ≡ false = none_of unread_sections section_words text refl absent in
-    rw (many, once, feature)
-no_kind_in text absent source.Problem =
-    let once : is_one_of (once_in source.Problem) text ≡ false = none_of (once_in source.Problem) section_words text refl absent in
-    let feature : is_one_of unread_sections text ≡ false = none_of unread_sections section_words text refl absent in
-    rw (once, feature)
+no_domain_kind text bytes same absent =
+    let text_absent = subst (λ (w : List ℕ). IsAbsent w of_domain) same absent in
+    let many : is_one_of (many_in source.Domain) text ≡ false = none_of (many_in source.Domain) of_domain text refl text_absent in
+    let once : is_one_of (once_in source.Domain) text ≡ false = none_of (once_in source.Domain) of_domain text refl text_absent in
+    rw (many, once)
 
-no_kind : (text : List ℕ) → IsAbsent text section_words → kinds_of text ≡ (Unknown, Unknown)
-no_kind text absent = ap (λ (k : Kind). (k, kind_of source.Problem text)) (no_kind_in text absent source.Domain) ∙ ap (λ (k : Kind). (Unknown, k)) (no_kind_in text absent source.Problem)
+pub record ProblemRows : Type 0 where
+  pub domain : kind_of source.Problem (codes ":domain") ≡ Once
+  pub goal : kind_of source.Problem (codes ":goal") ≡ Once
+  pub init : kind_of source.Problem (codes ":init") ≡ Once
+  pub length : kind_of source.Problem (codes ":length") ≡ Once
+  pub metric : kind_of source.Problem (codes ":metric") ≡ Once
+  pub objects : kind_of source.Problem (codes ":objects") ≡ Once
+  pub requirements : kind_of source.Problem (codes ":requirements") ≡ Once
 
-pub no_kind_read : (text bytes : List ℕ) → bytes ≡ text → IsAbsent bytes section_words → (Unknown, Unknown) ≡ kinds_of text
-no_kind_read text bytes same absent = sym (no_kind text (subst (λ (w : List ℕ). IsAbsent w section_words) same absent))
+pub problem_rows : ProblemRows
+unfolding kind_of
+problem_rows = record { domain = refl; goal = refl; init = refl; length = refl; metric = refl; objects = refl; requirements = refl }
+
+abbrev of_problem : List (List ℕ)
+of_problem = codes ":domain" ∷ codes ":goal" ∷ codes ":init" ∷ codes ":length" ∷ codes ":metric" ∷ codes ":objects" ∷ codes ":requirements" ∷ []
+
+pub no_problem_kind : (text bytes : List ℕ) → bytes ≡ text → IsAbsent bytes of_problem → kind_of source.Problem text ≡ other_kind text
+unfolding kind_of
+no_problem_kind text bytes same absent =
+    let once : is_one_of (once_in source.Problem) text ≡ false = none_of (once_in source.Problem) of_problem text refl (subst (λ (w : List ℕ). IsAbsent w of_problem) same absent) in
+    rw once
 
 -- a word that may stand once is one of them
 some_of : (some words : List (List ℕ)) (text : List ℕ) → list_all (is_one_of words) some ≡ true → is_one_of some text ≡ true → is_one_of words text ≡ true

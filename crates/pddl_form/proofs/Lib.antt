@@ -11,3 +11,4 @@ pub mod SectionLaws
 pub mod FirstFaults
 pub mod SeenLaws
 pub mod Keywords
+pub mod Groups

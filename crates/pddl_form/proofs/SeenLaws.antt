@@ -11,8 +11,8 @@ use Rattle.std.specs.declared.alloc.AllocError.{AllocError}
 use Rattle.sexpr.specs.declared.fault.Source.{Source}
 use Rattle.sexpr.specs.Opened.{text_of, start_of}
 use Rattle.pddl_form.specs.declared.fault.Fault.{Fault}
-use Rattle.pddl_form.specs.declared.sections.Kind.{Kind}
-use Rattle.pddl_form.specs.declared.sections.Kind.TheVariants.{Many, Once, Unread, Unknown}
+use Rattle.pddl_form.specs.declared.kinds.Kind.{Kind}
+use Rattle.pddl_form.specs.declared.kinds.Kind.TheVariants.{Many, Once, Unread, Unknown}
 use Rattle.pddl_form.specs.Faults.{first_with, shape}
 use Rattle.pddl_form.specs.Reading.{IsRead, Reads}
 use Rattle.pddl_form.specs.Gather.{push}

@@ -8,6 +8,7 @@ pub mod Words
 pub mod Calls
 pub mod Parts
 pub mod Typed
+pub mod Groups
 pub mod Put
 pub mod Concluded
 pub mod Sections

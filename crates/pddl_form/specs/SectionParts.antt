@@ -1,6 +1,6 @@
 -- What contracts see of the code's sections and definitions.
 use Rattle.pddl_form.specs.declared.sections.Section.{Section}
-use Rattle.pddl_form.specs.declared.sections.Definition.{Definition as Definition-ref}
+use Rattle.pddl_form.specs.declared.definition.Definition.{Definition as Definition-ref}
 use Rattle.pddl_form.specs.Sections.{Contents, Definition}
 
 -- the contents of a section

@@ -8,8 +8,8 @@ use Rattle.sexpr.specs.declared.fault.Source.{Source}
 use Rattle.sexpr.specs.declared.fault.Source.TheVariants as source
 use Rattle.sexpr.specs.Opened.{text_of, start_of}
 use Rattle.pddl_form.specs.declared.names.Sort.TheVariants.{Name, Keyword}
-use Rattle.pddl_form.specs.declared.sections.Kind.{Kind}
-use Rattle.pddl_form.specs.declared.sections.Kind.TheVariants.{Many, Once, Unread, Unknown}
+use Rattle.pddl_form.specs.declared.kinds.Kind.{Kind}
+use Rattle.pddl_form.specs.declared.kinds.Kind.TheVariants.{Many, Once, Unread, Unknown}
 use Rattle.pddl_form.specs.declared.sections.SectionWord.{SectionWord}
 use Rattle.pddl_form.specs.declared.sections.SectionWord.TheVariants as section
 use Rattle.pddl_form.specs.declared.spot.Spot.{Spot}
@@ -117,10 +117,6 @@ kind_of file text =
     if is_one_of (many file) text then Many
     else (if is_one_of (once file) text then Once
     else (if is_one_of unread_sections text then Unread else Unknown))
-
--- the two kinds of a word: in a domain, and in a problem
-abbrev pub kinds_of : List ℕ → Kind × Kind
-kinds_of text = (kind_of source.Domain text, kind_of source.Problem text)
 
 -- the word of a section, where one in front of it has the same word or not
 abbrev pub section_by : Kind → Bool → ℕ → List ℕ → Tested

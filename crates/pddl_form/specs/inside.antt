@@ -1,2 +1,3 @@
 -- What the clauses of private functions say. No public clause cites these files.
 pub mod Seen
+pub mod Kinds

@@ -10,7 +10,7 @@ use sqlite_items::Items;
 use std::alloc::{AllocError, Global};
 
 /// `(NAME WORD ..)`.
-#[derive(Debug, Drop)]
+#[derive(Drop)]
 pub struct Call {
     pub name: Spot,
     pub args: Items<Spot>,

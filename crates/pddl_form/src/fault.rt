@@ -10,7 +10,7 @@ use std::marker::Model;
 
 /// A fault of a text by its kind: 4 (the shape of a tree), 5 (a feature that isn't read, with its word) and 10 (no number)
 /// are those of the shape; the passes behind note theirs in the same form.
-#[derive(Debug, Drop)]
+#[derive(Drop)]
 pub struct Fault {
     pub kind: u8,
     pub place: u32,
@@ -24,7 +24,7 @@ fn comes_before(f: &Fault, g: &Fault) -> bool
 }
 
 /// The first fault so far, where there is one.
-#[derive(Debug, Drop)]
+#[derive(Drop)]
 pub struct FirstFault {
     first: Option<Fault>,
 }

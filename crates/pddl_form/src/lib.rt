@@ -6,23 +6,29 @@
 #![tactic(auto)]
 
 mod calls;
+mod definition;
 mod fault;
 mod gather;
+mod kinds;
 mod laws;
 mod names;
+mod section_words;
 mod sections;
+mod seen;
 mod spot;
 mod typed;
 
 pub use calls::{Call, read_arguments, read_call};
-pub use fault::{Fault, FirstFault, conclude};
-pub use gather::{add, add_all, pair, parted, provided};
-pub use laws::first_fault_is_least;
-pub use names::{Sort, is_symbol, reserved_words_rise, takes};
-pub use sections::{
-    Definition, Section, SectionWord, define_rises, find_section, open_definition, read_only_name,
-    read_requirements, read_section_words, read_title, section_behind, section_words_rise,
+pub use definition::{
+    Definition, define_rises, open_definition, read_only_name, read_requirements, read_title,
     title_words_rise,
 };
+pub use fault::{Fault, FirstFault, conclude};
+pub use gather::{add, add_all, pair, parted, provided};
+pub use kinds::sections_of_texts_rise;
+pub use laws::{first_fault_is_least, typed_list_is_groups};
+pub use names::{Sort, is_symbol, reserved_words_rise, takes};
+pub use section_words::read_section_words;
+pub use sections::{Section, SectionWord, find_section, section_behind, section_words_rise};
 pub use spot::{Spot, make_spot, read_word, read_words, word};
 pub use typed::{Typed, is_dash, read_typed_list, type_words_rise};

@@ -6,7 +6,7 @@ ghost use Rattle.pddl_form.specs.Names as names;
 use kw_table::Table;
 
 /// The words that a place takes.
-#[derive(Clone, Copy, Debug, PartialEq, Eq)]
+#[derive(Clone, Copy)]
 pub enum Sort {
     Name,
     Variable,

@@ -22,9 +22,9 @@ use Rattle.pddl_form.specs.Sections.{Contents, Definition, section_with, second,
 use Rattle.pddl_form.proofs.Giving.{Gives, gives-any, gives-mapped, gives-both, gives-if, gives-each, gives-contents, gives-and_then}
 use Rattle.pddl_form.proofs.Grammar.{word_gives, is_call_of, arguments_give, call_gives, one_gives, two_give, typed_list_gives, title_gives}
 use Rattle.pddl_condition.specs.declared.condition.CondAst.{CondAst}
-use Rattle.pddl_condition.specs.Condition.{negation, undone, not_read, condition_form}
+use Rattle.pddl_condition.specs.Condition.{negation, negated_atom, not_read, condition_form}
 use Rattle.pddl_condition.specs.Grammar.{is_condition}
-use Rattle.pddl_condition.proofs.Grammar.{condition_gives, negation_gives, undone_gives}
+use Rattle.pddl_condition.proofs.Grammar.{condition_gives, negation_gives, negated_atom_gives}
 use Rattle.pddl_problem.specs.declared.ast.InitAst.{InitAst}
 use Rattle.pddl_problem.specs.declared.init.Head.{Head}
 use Rattle.pddl_problem.specs.declared.init.Head.TheVariants.{Equal, At, Not, Predicate, Other}
@@ -41,7 +41,7 @@ true_gives start head parts symbol = gives-mapped (put_item true start) (is_call
 false_gives : (start end : ℕ) (head : Tree) (parts : List Tree) → Gives is_init (false_atom start end head parts)
 unfolding false_atom
 false_gives start end head parts =
-    gives-mapped (put_item false start) (is_call_of Name) is_init (negation (undone Name head) start end parts) (λ call h. h) (negation_gives (undone Name head) (is_call_of Name) (undone_gives Name head) start end parts)
+    gives-mapped (put_item false start) (is_call_of Name) is_init (negation (negated_atom Name head) start end parts) (λ call h. h) (negation_gives (negated_atom Name head) (is_call_of Name) (negated_atom_gives Name head) start end parts)
 
 value_gives : (start end : ℕ) (parts : List Tree) → Gives is_init (first_value start end parts)
 unfolding first_value

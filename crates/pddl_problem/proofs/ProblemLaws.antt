@@ -10,7 +10,7 @@ use Rattle.pddl_form.specs.Reading.{IsRead}
 use Rattle.pddl_form.proofs.Loops.{read_mapped, read_both}
 use Rattle.pddl_problem.specs.declared.ast.InitAst.{InitAst}
 use Rattle.pddl_problem.specs.Problem.{whole, problem_of}
-use Rattle.pddl_problem.specs.Made.{whole_made}
+use Rattle.pddl_problem.specs.inside.Made.{whole_made}
 
 pub whole_read : (name domain : Judged Spot) (objects : Judged (List Typed)) (init : Judged (List InitAst)) (goal : Judged (List CondAst))
     (f0 f1 f2 f3 f4 f5 : Option Fault) (n d : Option Spot) (o : Option (List Typed)) (i : Option (List InitAst)) (g : Option (List CondAst))

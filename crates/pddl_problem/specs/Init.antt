@@ -12,7 +12,7 @@ use Rattle.pddl_form.specs.Words.{word_of}
 use Rattle.pddl_form.specs.Calls.{arguments, call_form}
 use Rattle.pddl_form.specs.Parts.{two_parts}
 use Rattle.pddl_condition.specs.Expression.{number_form}
-use Rattle.pddl_condition.specs.Condition.{undone, negation, not_read}
+use Rattle.pddl_condition.specs.Condition.{negated_atom, negation, not_read}
 use Rattle.pddl_problem.specs.declared.ast.InitAst.{InitAst}
 use Rattle.pddl_problem.specs.declared.ast.InitAst.TheVariants as item
 use Rattle.pddl_problem.specs.declared.init.Head.{Head}
@@ -41,7 +41,7 @@ true_atom start head parts = mapped (put_item true start) (arguments Name head p
 
 -- `(not (NAME name ..))`, by the word `not` and the trees behind it
 unfoldable pub false_atom : ℕ → ℕ → Tree → List Tree → Judged InitAst
-false_atom start end head parts = mapped (put_item false start) (negation (undone Name head) start end parts)
+false_atom start end head parts = mapped (put_item false start) (negation (negated_atom Name head) start end parts)
 
 -- `(= (NAME name ..) NUMBER)`, by the trees behind the `=`
 unfoldable pub first_value : ℕ → ℕ → List Tree → Judged InitAst

@@ -1,4 +1,4 @@
 pub mod Init
 pub mod Problem
-pub mod Made
+pub mod inside
 pub mod Grammar

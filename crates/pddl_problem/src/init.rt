@@ -13,7 +13,7 @@ ghost use Rattle.pddl_problem.specs.Init as init_spec;
 use crate::ast::InitAst;
 use frac128::Frac;
 use kw_table::{Table, rows};
-use pddl_condition::{note_unread, read_number, read_undone};
+use pddl_condition::{note_unread, read_negated_atom, read_number};
 use pddl_form::{
     Call, FirstFault, Sort, add, is_symbol, pair, parted, provided, read_arguments, read_call, word,
 };
@@ -22,7 +22,7 @@ use sqlite_items::Items;
 use std::alloc::{AllocError, Global};
 
 /// What the head of a list makes of it.
-#[derive(Clone, Copy, Debug, PartialEq, Eq)]
+#[derive(Clone, Copy)]
 pub enum Head {
     /// `=`, of a value.
     Equal,
@@ -134,7 +134,7 @@ fn read_false_atom(
 ) -> Result<Option<InitAst>, AllocError>
     ensures { Reads (init_spec.false_atom start end head.now parts.now) faults.old faults.new result }
 {
-    let call = read_undone(alloc, Sort::Name, start, end, head, parts, faults)?;
+    let call = read_negated_atom(alloc, Sort::Name, start, end, head, parts, faults)?;
     Ok(make_put(false, start, call))
 }
 

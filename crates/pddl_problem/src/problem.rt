@@ -8,7 +8,7 @@ ghost use Rattle.pddl_form.specs.SectionParts.{parts_of};
 ghost use Rattle.pddl_form.specs.Concluded.{Answers};
 ghost use Rattle.pddl_problem.specs.Problem as problem;
 ghost use Rattle.pddl_problem.specs.Grammar.{is_problem};
-ghost use Rattle.pddl_problem.specs.Made as made_spec;
+ghost use Rattle.pddl_problem.specs.inside.Made as made_spec;
 
 use crate::ast::{InitAst, ProblemAst};
 use crate::init::read_inits;

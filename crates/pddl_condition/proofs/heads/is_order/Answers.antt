@@ -1,0 +1,8 @@
+use Rattle.std.proofs.Common.{◌∙◌, ap}
+use Rattle.pddl_form.specs.Names.{is_one_of}
+use Rattle.pddl_form.proofs.Keywords.{finds_any}
+use Rattle.pddl_condition.specs.Condition.{orders}
+use Rattle.pddl_condition.proofs.heads.is_order.Goals as goal
+
+pub returns : goal.returns
+returns c = c.is_some.ensures ∙ finds_any orders c.as_bytes.result.now c.find.result c.find.ensures.found ∙ ap (is_one_of orders) c.as_bytes.ensures.value
