@@ -27,7 +27,7 @@ is_less : (m n : ℕ) → nat_lt m n ≡ true → m < n
 is_less m n e = grind (arith, nat_tests)
 
 -- ---- one more variable
-below-more : (n k : ℕ) → n ≤ k → (ts : Terms) → AreBelow n ts → AreBelow k ts
+pub below-more : (n k : ℕ) → n ≤ k → (ts : Terms) → AreBelow n ts → AreBelow k ts
 below-more n k h [] e = refl
 below-more n k h (t ∷ ts) e = let p = and_parts (nat_lt t.0 n) _ e in and_from _ _ (at_most t.0 n k h p.0) (below-more n k h ts p.1)
 
@@ -62,7 +62,7 @@ clause-more n k least h (l ∷ ls) e =
     let q = and_parts (nat_lt l.boolean n) _ p.1 in
     and_from _ _ p.0 (and_from _ _ (at_most l.boolean n k h q.0) (clause-more n k (suc l.boolean) h ls q.1))
 
-clauses-more : (n k : ℕ) → n ≤ k → (cs : List (List Lit)) → list_all (is_clause n) cs ≡ true → list_all (is_clause k) cs ≡ true
+pub clauses-more : (n k : ℕ) → n ≤ k → (cs : List (List Lit)) → list_all (is_clause n) cs ≡ true → list_all (is_clause k) cs ≡ true
 clauses-more n k h [] e = refl
 clauses-more n k h (c ∷ cs) e = let p = and_parts (is_clause n c) _ e in and_from _ _ (clause-more n k 0 h c p.0) (clauses-more n k h cs p.1)
 

@@ -1,1 +1,5 @@
 pub mod Growing
+pub mod Readings
+pub mod MeetingSteps
+pub mod Holding
+pub mod Splits

@@ -1,2 +1,4 @@
 pub mod Atoms
 pub mod Contents
+pub mod Reading
+pub mod Meets

@@ -1,6 +1,7 @@
 //! A formula: numeric variables, some of them counts, Booleans, some of them atoms, and clauses. Begin with `Formula`.
 ghost use Rattle.std.specs.Prelude.{◌≡◌, ◌<◌, ◌+◌, [], ◌∷◌, ◌++◌, length, slice_get, Some, None, true, IfOk, OnOk, OnErr};
 ghost use Rattle.std.specs.Option.{option_copied};
+ghost use Rattle.formula.specs.Atoms.{IsAtom};
 ghost use Rattle.formula.specs.Contents.{IsFormula, is_clause, with_variable, with_boolean, with_clause};
 
 use crate::atom::Atom;
@@ -15,9 +16,11 @@ pub struct Formula {
     counts: Items<bool>,
     atoms: Items<Option<Atom>>,
     clauses: Items<Clause>,
+    alloc: Global,
 }
 
 impl Model for Formula {
+    ghost use Rattle.formula.specs.Atoms.{IsAtom};
     ghost use Rattle.formula.specs.Contents.{Contents, contents_code, IsFormula};
 
     ghost Value = { Contents };
@@ -38,6 +41,7 @@ impl Formula {
             counts: Items::new(alloc),
             atoms: Items::new(alloc),
             clauses: Items::new(alloc),
+            alloc,
         }
     }
 
@@ -109,5 +113,34 @@ impl Formula {
         ensures same { OnErr result (self.new ≡ self.old) }
     {
         self.clauses.push(c)
+    }
+
+    /// One more Boolean, of this atom, and its number.
+    pub(crate) fn push_atom(&mut self, a: Atom) -> Result<u64, AllocError>
+        requires { IsAtom self.old.counts a }
+        ensures number { IfOk result (λ b. b ≡ length self.old.atoms) }
+        ensures added { OnOk result (self.new ≡ with_boolean (Some a) self.old) }
+        ensures same { OnErr result (self.new ≡ self.old) }
+    {
+        let number = self.booleans();
+        self.atoms.push(Some(a))?;
+        Ok(number)
+    }
+
+    pub(crate) fn counts(&self) -> &[bool]
+        ensures value { result.now ≡ self.now.counts }
+        ensures formula { IsFormula self.now }
+    {
+        self.counts.as_slice()
+    }
+
+    pub(crate) fn atoms(&self) -> &[Option<Atom>]
+        ensures { result.now ≡ self.now.atoms }
+    {
+        self.atoms.as_slice()
+    }
+
+    pub(crate) fn alloc(&self) -> Global {
+        self.alloc
     }
 }

@@ -5,7 +5,10 @@
 mod atom;
 mod clause;
 mod formula;
+mod meeting;
 mod point;
+mod reading;
+mod split;
 
 pub use atom::{Atom, Constraint, Lit};
 pub use clause::Clause;
