@@ -1,4 +1,4 @@
--- What an outcome means: runs of the parts behind one another.
+-- What an outcome means: runs of the parts after one another.
 use Rattle.std.proofs.Common.{◌≡◌, ℕ, ◌+◌, Bool, true, false, List, [], ◌∷◌, ◌⊎◌, inl, inr, Result, Ok, Err, refl, sym, ap, subst, ◌∙◌}
 use Rattle.std.specs.Prelude.{IfOk}
 use Rattle.frac128.specs.declared.operations.Wide.{Wide}
@@ -13,7 +13,7 @@ use Rattle.plan_step.specs.Meaning.{all_hold, Run, ended}
 use Rattle.plan_step.specs.Laws.{IsWide, IsRefutal, TellsWide}
 use Rattle.plan_step.proofs.LeafLaws.{tested_goal}
 use Rattle.plan_step.proofs.WideLaws.{wide_repetition, wide_goal}
-use Rattle.plan_step.proofs.RunLaws.{one_run, made_run, run_behind, failed_wide}
+use Rattle.plan_step.proofs.RunLaws.{one_run, made_run, run_after, failed_wide}
 use Rattle.plan_text.specs.declared.plan.Part.{Part}
 use Rattle.plan_judge.specs.declared.outcome.Outcome.{Outcome}
 use Rattle.plan_judge.specs.declared.outcome.Outcome.TheVariants as outcome
@@ -57,7 +57,7 @@ module _ (task : TaskParts) where
   parts_fail (part ∷ more) n s t e is r =
       elim (more_fails n (repeated_from task part.by 1 part.count s) (made_from task (n + 1) more) e (sym (made_next task n part more s) ∙ is)) [
         | inl h ↦ failed_wide task part.by part.count 1 s t (written_out more) e.fail h r
-        | inr a ↦ parts_fail more (n + 1) a.0 t e a.2 (run_behind task part.by part.count 1 s a.0 t (written_out more) a.1 r)
+        | inr a ↦ parts_fail more (n + 1) a.0 t e a.2 (run_after task part.by part.count 1 s a.0 t (written_out more) a.1 r)
       ]
 
   -- they end in one state

@@ -13,7 +13,7 @@ use Rattle.plan_text.specs.declared.plan.Part.{Part}
 use Rattle.plan_judge.specs.declared.outcome.PartFail.{PartFail}
 use Rattle.plan_judge.specs.Outcome.{part_fail, then_more, made_from, goal_outcome, end_outcome, outcome_of}
 
--- the part at a place, and those behind it
+-- the part at a place, and those after it
 part_at : (plan items : List Part) (i : ℕ) (part : Part) → items ≡ plan → i < length items → part ≡ get_or items i part → drop i plan ≡ part ∷ drop (i + 1) plan
 part_at plan items i part same below is =
     ap (drop i) (sym same) ∙ drop-cons items i part below ∙ ap (λ (p : Part). p ∷ drop (suc i) items) (sym is) ∙ ap (λ (ps : List Part). part ∷ drop (suc i) ps) same ∙ ap (λ (n : ℕ). part ∷ drop n plan) (sym (add-one i))
@@ -49,7 +49,7 @@ module _ (task : TaskParts) where
     pub part_fails : (part : Part) (f : RepeatFail) → i < length items → part ≡ get_or items i part → repeated_from task part.by 1 part.count s ≡ Err f → all ≡ Err (part_fail (i + 1) f)
     part_fails part f below is failed = at_part part below is ∙ ap (λ (r : Result PlanState RepeatFail). then_more (i + 1) r (made_from task (i + 1 + 1) (drop (i + 1) plan))) failed
 
-    -- the last part is behind
+    -- no part is left
     pub parts_made : length items ≤ i → all ≡ Ok s
     parts_made past = so_far ∙ ap (λ (ps : List Part). made_from task (i + 1) ps s) (ap (drop i) (sym same) ∙ drop_all i items past) ∙ made_none (i + 1) s
 

@@ -11,7 +11,7 @@ use Rattle.plan_step.specs.Repeat.{repeated_from}
 use Rattle.plan_step.specs.Conditions.{goal_met}
 use Rattle.plan_step.specs.Meaning.{Run}
 use Rattle.plan_step.proofs.Reasons.{failure_reason}
-use Rattle.plan_step.proofs.RunLaws.{made_run, failed_behind}
+use Rattle.plan_step.proofs.RunLaws.{made_run, failed_after}
 use Rattle.plan_text.specs.declared.plan.Part.{Part}
 use Rattle.plan_judge.specs.declared.outcome.PartFail.{PartFail}
 use Rattle.plan_judge.specs.declared.outcome.Outcome.{Outcome}
@@ -22,7 +22,7 @@ use Rattle.plan_judge.specs.Course.{IsFirstFailure, IsTested, ComesTo}
 use Rattle.plan_judge.proofs.Parts.{made_none, made_next}
 use Rattle.plan_judge.proofs.Judgements.{parts_run, end_valid, end_fails, end_past}
 
--- a part fails, or one behind it
+-- a part fails, or one after it
 abbrev FailsHere : ℕ → Result PlanState RepeatFail → (PlanState → Result PlanState PartFail) → PartFail → Type 0
 FailsHere n r next e = ((r ≡ Err e.fail) × (e.part ≡ n)) ⊎ ((s : PlanState) × (r ≡ Ok s) × (next s ≡ Err e))
 
@@ -32,12 +32,12 @@ fails_here n (Err f) next e is =
     let same : part_fail n f ≡ e = cc in inl (ap (λ (g : PartFail). Err g.fail) same, ap (λ (g : PartFail). g.part) (sym same))
 
 module _ (task : TaskParts) where
-  -- the first failure behind a state, where the first part has this number
+  -- the first failure after a state, where the first part has this number
   record FailsFrom (n : ℕ) (plan : List Part) (s : PlanState) (e : PartFail) : Type 0 where
     pub front : List Part
     pub part : Part
-    pub behind : List Part
-    pub split : plan ≡ front ++ part ∷ behind
+    pub after : List Part
+    pub split : plan ≡ front ++ part ∷ after
     pub number : e.part ≡ n + length front
     pub made : ℕ
     pub within : made < part.count
@@ -59,11 +59,11 @@ module _ (task : TaskParts) where
   parts_failure (part ∷ more) n s e is =
       elim (fails_here n (repeated_from task part.by 1 part.count s) (made_from task (n + 1) more) e (sym (made_next task n part more s) ∙ is)) [
         | inl h ↦
-            let f = failed_behind task part.by part.count 1 s e.fail h.0 in
+            let f = failed_after task part.by part.count 1 s e.fail h.0 in
             record {
               front = [];
               part = part;
-              behind = more;
+              after = more;
               split = refl;
               number = let here : e.part ≡ n = h.1 in omega arith;
               made = f.made;
@@ -78,7 +78,7 @@ module _ (task : TaskParts) where
             record {
               front = part ∷ h.front;
               part = h.part;
-              behind = h.behind;
+              after = h.after;
               split = ap (λ (ps : List Part). part ∷ ps) h.split;
               number = let k : e.part ≡ n + 1 + length h.front = h.number in omega arith;
               made = h.made;
@@ -98,7 +98,7 @@ module _ (task : TaskParts) where
       record {
         front = h.front;
         part = h.part;
-        behind = h.behind;
+        after = h.after;
         split = h.split;
         number = let k : e.part ≡ 1 + length h.front = h.number in omega arith;
         made = h.made;

@@ -1,4 +1,4 @@
--- How far a plan comes, by runs of instances: to the first step that fails, or to the goal's test behind its last part.
+-- How far a plan comes, by runs of instances: to the first step that fails, or to the goal's test after its last part.
 use Rattle.std.specs.Prelude.{◌≡◌, ℕ, ◌+◌, ◌<◌, Bool, true, false, List, ◌∷◌, ◌++◌, length, replicate, Result, Ok, Err}
 use Rattle.frac128.specs.declared.operations.Wide.{Wide}
 use Rattle.pddl_task.specs.declared.parts.TaskParts.{TaskParts}
@@ -13,13 +13,13 @@ use Rattle.plan_judge.specs.declared.outcome.Outcome.{Outcome}
 use Rattle.plan_judge.specs.declared.outcome.Outcome.TheVariants as outcome
 use Rattle.plan_text.specs.Printed.{written_out}
 
--- The parts in front of one have a run, with some of its repetitions behind them, and the next step fails, by the reason
+-- The parts in front of one have a run, with some of its repetitions after them, and the next step fails, by the reason
 -- that is told. Parts and repetitions are numbered from 1.
 pub record IsFirstFailure (task : TaskParts) (plan : List Part) (e : PartFail) : Type 0 where
   pub front : List Part
   pub part : Part
-  pub behind : List Part
-  pub split : plan ≡ front ++ part ∷ behind
+  pub after : List Part
+  pub split : plan ≡ front ++ part ∷ after
   pub number : e.part ≡ length front + 1
   pub made : ℕ
   pub within : made < part.count
@@ -29,7 +29,7 @@ pub record IsFirstFailure (task : TaskParts) (plan : List Part) (e : PartFail) :
   pub reason : FailsBy task reached part.by e.fail.fail
   pub fails : step_from task reached part.by ≡ Err e.fail.fail
 
--- the plan written out has a run, and the goal's test behind it answers this
+-- the plan written out has a run, and the goal's test after it answers this
 pub record IsTested (task : TaskParts) (plan : List Part) (answer : Result Bool Wide) : Type 0 where
   pub reached : PlanState
   pub run : Run task (initial task) (written_out plan) reached

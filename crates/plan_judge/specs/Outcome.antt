@@ -20,7 +20,7 @@ abbrev pub then_more : ℕ → Result PlanState RepeatFail → (PlanState → Re
 then_more part (Ok s) next = next s
 then_more part (Err e) next = Err (part_fail part e)
 
--- the state behind the parts, of which the first has this number, or the first that fails
+-- the state after the parts, of which the first has this number, or the first that fails
 unfoldable pub made_from : TaskParts → ℕ → List Part → PlanState → Result PlanState PartFail
 made_from task n [] s = Ok s
 made_from task n (part ∷ more) s = then_more n (repeated_from task part.by 1 part.count s) (made_from task (n + 1) more)

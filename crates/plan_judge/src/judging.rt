@@ -1,4 +1,4 @@
-//! The parts of a plan, one after another, and the goal behind them.
+//! The parts of a plan, one after another, and the goal after them.
 ghost use Rattle.std.specs.Prelude.{◌≡◌, IfOk};
 ghost use Rattle.plan_judge.specs.Outcome.{outcome_of};
 ghost use Rattle.plan_judge.specs.Course.{ComesTo};

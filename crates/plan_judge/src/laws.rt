@@ -22,7 +22,7 @@ pub fn invalid_outcome_is_invalid()
     ensures { (task : TaskParts) (plan : List Part) → SaysInvalid (outcome_of task plan) → IsValid task plan → ⊥ }
 {}
 
-/// The state behind parts that are made is the end of the plan's run, and each run ends there.
+/// The state after parts that are made is the end of the plan's run, and each run ends there.
 pub fn made_parts_are_the_run()
     ensures run { (task : TaskParts) (plan : List Part) (s : PlanState) → made_from task 1 plan (initial task) ≡ Ok s → Run task (initial task) (written_out plan) s }
     ensures only { (task : TaskParts) (plan : List Part) (s t : PlanState) → made_from task 1 plan (initial task) ≡ Ok s → Run task (initial task) (written_out plan) t → s ≡ t }

@@ -1,4 +1,4 @@
-//! Is a plan valid? `judge_plan` makes the steps of its parts from the initial state, and tests the goal behind them.
+//! Is a plan valid? `judge_plan` makes the steps of its parts from the initial state, and tests the goal after them.
 //!
 //! `outcome` is what comes out, and `laws` says what it means by PDDL 2.1, in unlimited fractions.
 #![tactic(auto)]

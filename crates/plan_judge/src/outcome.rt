@@ -14,7 +14,7 @@ pub enum Outcome {
     Valid,
     /// A part has no run, or an operation of one passes 128 bits.
     PartFails(PartFail),
-    /// The goal doesn't hold behind the last part.
+    /// The goal doesn't hold after the last part.
     GoalFails,
     /// This operation of the goal's test passes 128 bits.
     GoalWide(Wide),

@@ -8,10 +8,12 @@ use Rattle.plan_step.specs.declared.failure.StepFail.TheVariants as fail
 use Rattle.plan_step.specs.declared.touches.Touch.{Touch}
 use Rattle.plan_step.specs.State.{PlanState}
 use Rattle.plan_step.specs.Conditions.{leaves_met, first_unmet}
-use Rattle.plan_step.specs.Effects.{Change, change_met, all_changes, first_clash}
-use Rattle.plan_step.specs.Step.{then_next, state_behind, made_by}
-use Rattle.plan_step.specs.Touches.{Answers, changes_of}
-use Rattle.plan_step.specs.Making.{changes_in, MakesFail}
+use Rattle.plan_step.specs.Effects.{change_met, all_changes, first_clash}
+use Rattle.plan_step.specs.Meaning.{Change}
+use Rattle.plan_step.specs.Step.{then_next, state_after, made_by}
+use Rattle.plan_step.specs.inside.Touches.{Answers, changes_of}
+use Rattle.plan_step.specs.Making.{MakesFail}
+use Rattle.plan_step.specs.inside.Undoing.{changes_in}
 
 -- a failure is passed on, where the whole means it too
 pub failed_as : {A B C D : Type 0} (f : A → B) (g : C → D) (part : Result B StepFail) (whole : Result D StepFail) (e : StepFail)
@@ -24,27 +26,27 @@ failed_as f g part whole (fail.NoValue i) pass h = pass h
 failed_as f g part whole (fail.Clash i) pass h = pass h
 failed_as f g part whole (fail.Wide w) pass h = pass h
 
--- ---- the changes, and then the state behind them
+-- ---- the changes, and then the state after them
 
-behind_free : (r : Result (Unit {0}) StepFail) (changes : List Change) (next : List Change → Result PlanState StepFail) → then_next r (λ _. next changes) ≡ then_next (then_next r (λ _. Ok changes)) next
-behind_free (Ok u) changes next = refl
-behind_free (Err e) changes next = refl
+after_free : (r : Result (Unit {0}) StepFail) (changes : List Change) (next : List Change → Result PlanState StepFail) → then_next r (λ _. next changes) ≡ then_next (then_next r (λ _. Ok changes)) next
+after_free (Ok u) changes next = refl
+after_free (Err e) changes next = refl
 
-behind_changes : (r : Result (Unit {0}) StepFail) (q : Result (List Change) StepFail) (free : List Change → Result (Unit {0}) StepFail) (next : List Change → Result PlanState StepFail)
+after_changes : (r : Result (Unit {0}) StepFail) (q : Result (List Change) StepFail) (free : List Change → Result (Unit {0}) StepFail) (next : List Change → Result PlanState StepFail)
     → then_next r (λ _. then_next q (λ changes. then_next (free changes) (λ _. next changes))) ≡ then_next (then_next r (λ _. then_next q (λ changes. then_next (free changes) (λ _. Ok changes)))) next
-behind_changes (Ok u) (Ok changes) free next = behind_free (free changes) changes next
-behind_changes (Ok u) (Err e) free next = refl
-behind_changes (Err e) q free next = refl
+after_changes (Ok u) (Ok changes) free next = after_free (free changes) changes next
+after_changes (Ok u) (Err e) free next = refl
+after_changes (Err e) q free next = refl
 
 module _ (s : PlanState) (a : Action) (args : List ℕ) (conds : List Cond) (effs : List Effect) (same_conds : conds ≡ a.conds) (same_effs : effs ≡ a.effs) where
-  made_is : made_by s a args ≡ then_next (changes_in s args conds effs) (λ changes. state_behind changes s)
+  made_is : made_by s a args ≡ then_next (changes_in s args conds effs) (λ changes. state_after changes s)
   made_is =
-      behind_changes (first_unmet 0 (leaves_met s args a.conds)) (all_changes 0 (map (change_met s args) a.effs)) (first_clash 0 []) (λ changes. state_behind changes s)
-      ∙ ap (λ (cs : List Cond). then_next (changes_in s args cs a.effs) (λ changes. state_behind changes s)) (sym same_conds)
-      ∙ ap (λ (es : List Effect). then_next (changes_in s args conds es) (λ changes. state_behind changes s)) (sym same_effs)
+      after_changes (first_unmet 0 (leaves_met s args a.conds)) (all_changes 0 (map (change_met s args) a.effs)) (first_clash 0 []) (λ changes. state_after changes s)
+      ∙ ap (λ (cs : List Cond). then_next (changes_in s args cs a.effs) (λ changes. state_after changes s)) (sym same_conds)
+      ∙ ap (λ (es : List Effect). then_next (changes_in s args conds es) (λ changes. state_after changes s)) (sym same_effs)
 
   fails_as : (e : StepFail) → changes_in s args conds effs ≡ Err e → made_by s a args ≡ Err e
-  fails_as e is = made_is ∙ ap (λ (r : Result (List Change) StepFail). then_next r (λ changes. state_behind changes s)) is
+  fails_as e is = made_is ∙ ap (λ (r : Result (List Change) StepFail). then_next r (λ changes. state_after changes s)) is
 
   -- where the changes aren't found, no step is made
   pub unmade : (e : StepFail) → Answers changes_of (changes_in s args conds effs) (Err e) → MakesFail (made_by s a args) s s e
@@ -56,11 +58,11 @@ module _ (s : PlanState) (a : Action) (args : List ℕ) (conds : List Cond) (eff
   unmade (fail.Clash i) h = (fails_as (fail.Clash i) h, refl)
   unmade (fail.Wide w) h = (fails_as (fail.Wide w) h, refl)
 
-  -- the state behind the changes that are found
-  pub made_behind : (touches also : List Touch) (placed : PlanState) (r : Result PlanState StepFail) → changes_in s args conds effs ≡ Ok (changes_of touches) → also ≡ touches → placed ≡ s → state_behind (changes_of also) placed ≡ r → made_by s a args ≡ r
-  made_behind touches also placed r found same placed_same behind =
+  -- the state after the changes that are found
+  pub made_after : (touches also : List Touch) (placed : PlanState) (r : Result PlanState StepFail) → changes_in s args conds effs ≡ Ok (changes_of touches) → also ≡ touches → placed ≡ s → state_after (changes_of also) placed ≡ r → made_by s a args ≡ r
+  made_after touches also placed r found same placed_same after =
       made_is
-      ∙ ap (λ (q : Result (List Change) StepFail). then_next q (λ changes. state_behind changes s)) found
-      ∙ ap (λ (ts : List Touch). state_behind (changes_of ts) s) (sym same)
-      ∙ ap (λ (t : PlanState). state_behind (changes_of also) t) (sym placed_same)
-      ∙ behind
+      ∙ ap (λ (q : Result (List Change) StepFail). then_next q (λ changes. state_after changes s)) found
+      ∙ ap (λ (ts : List Touch). state_after (changes_of ts) s) (sym same)
+      ∙ ap (λ (t : PlanState). state_after (changes_of also) t) (sym placed_same)
+      ∙ after

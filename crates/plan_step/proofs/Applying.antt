@@ -1,4 +1,4 @@
--- The state behind the changes, from its truths and its values.
+-- The state after the changes, from its truths and its values.
 use Rattle.std.proofs.Common.{◌≡◌, ℕ, Bool, true, false, not, ◌&&◌, ◌||◌, cond, List, [], ◌∷◌, map, Ok, Err, refl, sym, ap, ap₂, ◌∙◌}
 use Rattle.std.specs.List.{list_any}
 use Rattle.frac128.specs.declared.operations.Wide.{Wide}
@@ -7,10 +7,11 @@ use Rattle.plan_step.specs.declared.touches.Touch.{Touch}
 use Rattle.plan_step.specs.declared.touches.Touch.TheVariants as touch
 use Rattle.plan_step.specs.State.{PlanState}
 use Rattle.plan_step.specs.Met.{found, passes}
-use Rattle.plan_step.specs.Effects.{Change, puts, truth_behind, values_behind}
-use Rattle.plan_step.specs.Step.{with_values, state_behind}
-use Rattle.plan_step.specs.Touches.{target_of, change_in, changes_of, DiffersIn, is_atom}
-use Rattle.plan_step.specs.Application.{with_truths}
+use Rattle.plan_step.specs.Effects.{values_after}
+use Rattle.plan_step.specs.Meaning.{Change, puts, truth_after}
+use Rattle.plan_step.specs.Step.{with_values, state_after}
+use Rattle.plan_step.specs.inside.Touches.{target_of, change_in, changes_of, DiffersIn, is_atom}
+use Rattle.plan_step.specs.inside.Application.{with_truths}
 use Rattle.plan_step.proofs.Booleans.{neither_true}
 use Rattle.plan_step.proofs.Truths.{one_state, state_with}
 
@@ -23,15 +24,15 @@ module _ (changes : List Change) (old changed : PlanState) (truths : changed.tru
   both false false false = refl
 
   -- first the deleted atoms, and then the added ones
-  pub behind : values_behind changes old.value ≡ found changed.value → state_behind changes old ≡ Ok (with_truths true changes (with_truths false changes changed))
-  behind values =
+  pub after : values_after changes old.value ≡ found changed.value → state_after changes old ≡ Ok (with_truths true changes (with_truths false changes changed))
+  after values =
       ap (with_values changes old) values
-      ∙ ap Ok (one_state (state_with (truth_behind changes old.truth) changed.value) (with_truths true changes (with_truths false changes changed))
-      (λ p args. ap (λ (of : ℕ → List ℕ → Bool). truth_behind changes of p args) (sym truths) ∙ sym (both (list_any (puts true p args) changes) (list_any (puts false p args) changes) (changed.truth p args)))
+      ∙ ap Ok (one_state (state_with (truth_after changes old.truth) changed.value) (with_truths true changes (with_truths false changes changed))
+      (λ p args. ap (λ (of : ℕ → List ℕ → Bool). truth_after changes of p args) (sym truths) ∙ sym (both (list_any (puts true p args) changes) (list_any (puts false p args) changes) (changed.truth p args)))
       (λ f args. refl))
 
-pub behind_fails : (changes : List Change) (old : PlanState) (w : Wide) → values_behind changes old.value ≡ passes w → state_behind changes old ≡ Err (fail.Wide w)
-behind_fails changes old w values = ap (with_values changes old) values
+pub after_fails : (changes : List Change) (old : PlanState) (w : Wide) → values_after changes old.value ≡ passes w → state_after changes old ≡ Err (fail.Wide w)
+after_fails changes old w values = ap (with_values changes old) values
 
 -- ---- an atom that isn't touched
 not_put : (b : Bool) (p : ℕ) (args : List ℕ) (t : Touch) → is_atom p args (target_of t) ≡ false → puts b p args (change_in t) ≡ false

@@ -12,7 +12,7 @@ use Rattle.plan_step.specs.Making.{MakesFail, Makes}
 use Rattle.plan_step.specs.Repeat.{repeat_fail, repeated_from, RepeatFails, Repeats}
 use Rattle.plan_step.specs.Reasons.{FailsBy, BreaksAt, BreaksBy}
 use Rattle.plan_step.proofs.Reasons.{failure_reason}
-use Rattle.plan_step.proofs.RunLaws.{failed_behind}
+use Rattle.plan_step.proofs.RunLaws.{failed_after}
 
 module _ (task : TaskParts) (by : Instance) (s new : PlanState) where
   fails_by : (e : StepFail) → MakesFail (step_from task s by) s new e → FailsBy task s by e
@@ -31,7 +31,7 @@ module _ (task : TaskParts) (by : Instance) (s new : PlanState) where
   module _ (times : ℕ) where
     breaks_at : (at : ℕ) (e : StepFail) → repeated_from task by 1 times s ≡ Err (repeat_fail at e) → BreaksAt task s by times at e
     breaks_at at e is =
-        let h = failed_behind task by times 1 s (repeat_fail at e) is in
+        let h = failed_after task by times 1 s (repeat_fail at e) is in
         record {
           made = h.made;
           within = h.within;

@@ -55,7 +55,7 @@ deepest-take parts zero = omega arith
 deepest-take [] (suc n) = omega arith
 deepest-take (e ∷ parts) (suc n) = omega (arith, deepest-take parts n)
 
--- parts behind the first
-pub deepest-behind : (parts : List Expr) (n : ℕ) → deepest (take n (drop 1 parts)) ≤ deepest parts
-deepest-behind [] n = omega (arith, deepest-take [] n)
-deepest-behind (e ∷ parts) n = omega (arith, deepest-take parts n)
+-- parts after the first
+pub deepest-after : (parts : List Expr) (n : ℕ) → deepest (take n (drop 1 parts)) ≤ deepest parts
+deepest-after [] n = omega (arith, deepest-take [] n)
+deepest-after (e ∷ parts) n = omega (arith, deepest-take parts n)

@@ -9,7 +9,8 @@ use Rattle.pddl_task.specs.declared.expression.Expr.TheOpen.{Expr-F}
 use Rattle.pddl_task.specs.declared.expression.Expr.TheFolds.{fold-Expr, fold-roll-Expr}
 use Rattle.plan_step.specs.State.{PlanState}
 use Rattle.plan_step.specs.Met.{Met, found, and_then, operated, value_or_none, met_of}
-use Rattle.plan_step.specs.Evaluation.{objects_of, folded, divided, evaluation_step, evaluated}
+use Rattle.plan_step.specs.Evaluation.{folded, divided, evaluation_step, evaluated}
+use Rattle.plan_step.specs.Meaning.{objects_of}
 
 module _ (state : PlanState) (args : List ℕ) where
   pub evaluated-num : (n : Fraction) → evaluated state args (expr.Num n) ≡ found n

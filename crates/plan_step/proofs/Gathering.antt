@@ -8,8 +8,9 @@ use Rattle.plan_step.specs.declared.failure.StepFail.TheVariants as fail
 use Rattle.plan_step.specs.declared.touches.Touch.{Touch}
 use Rattle.plan_step.specs.State.{PlanState}
 use Rattle.plan_step.specs.Met.{Met, found, lacks, passes}
-use Rattle.plan_step.specs.Effects.{Change, change_met, all_changes, more_changes}
-use Rattle.plan_step.specs.Touches.{leaf_answer, change_in, changes_of, target_of, target_in, EachTouch, IsKept, IsUsable, HasTarget, IsTouch, AreTouches}
+use Rattle.plan_step.specs.Effects.{change_met, all_changes, more_changes}
+use Rattle.plan_step.specs.Meaning.{Change}
+use Rattle.plan_step.specs.inside.Touches.{leaf_answer, change_in, changes_of, target_of, target_in, EachTouch, IsKept, IsUsable, HasTarget, IsTouch, AreTouches}
 
 -- changes in front of what comes of the rest
 abbrev pub with_front : List Change → Result (List Change) StepFail → Result (List Change) StepFail
@@ -38,16 +39,16 @@ module _ (state : PlanState) (args : List ℕ) (effs : List Effect) where
     gathered_all past = h ∙ ap (with_front (changes_of touches)) (at_drop_all (λ es. all_changes i (ms es)) effs i past) ∙ ap Ok (append-nil (changes_of touches))
 
     module _ (within : i < length effs) (effect : Effect) (is : effect ≡ get_or effs i effect) where
-      abbrev behind : Met Change → Result (List Change) StepFail
-      behind m = with_front (changes_of touches) (all_changes i (m ∷ ms (drop (i + 1) effs)))
+      abbrev after : Met Change → Result (List Change) StepFail
+      after m = with_front (changes_of touches) (all_changes i (m ∷ ms (drop (i + 1) effs)))
 
-      here : all_changes 0 (ms effs) ≡ behind (change_met state args effect)
-      here = h ∙ ap (with_front (changes_of touches)) (at_drop_more (λ es. all_changes i (ms es)) effs i effect within) ∙ ap (λ e. behind (change_met state args e)) (sym is)
+      here : all_changes 0 (ms effs) ≡ after (change_met state args effect)
+      here = h ∙ ap (with_front (changes_of touches)) (at_drop_more (λ es. all_changes i (ms es)) effs i effect within) ∙ ap (λ e. after (change_met state args e)) (sym is)
 
       rest : Result (List Change) StepFail
       rest = all_changes (i + 1) (ms (drop (i + 1) effs))
 
-      failed : (m : Met Change) (e : StepFail) → leaf_answer i m ≡ Err e → behind m ≡ Err e
+      failed : (m : Met Change) (e : StepFail) → leaf_answer i m ≡ Err e → after m ≡ Err e
       failed (found c) e is = cc
       failed lacks e is = let same : fail.NoValue i ≡ e = cc in ap (λ (x : StepFail). Err x) same
       failed (passes w) e is = let same : fail.Wide w ≡ e = cc in ap (λ (x : StepFail). Err x) same
@@ -59,7 +60,7 @@ module _ (state : PlanState) (args : List ℕ) (effs : List Effect) where
       one_more c (Ok more) = ap Ok (sym (append_assoc (changes_of touches) (c ∷ []) more))
       one_more c (Err e) = refl
 
-      goes_on : (m : Met Change) (t : Touch) → leaf_answer i m ≡ Ok (change_in t) → behind m ≡ with_front (changes_of (touches ++ t ∷ [])) (all_changes (i + 1) (ms (drop (i + 1) effs)))
+      goes_on : (m : Met Change) (t : Touch) → leaf_answer i m ≡ Ok (change_in t) → after m ≡ with_front (changes_of (touches ++ t ∷ [])) (all_changes (i + 1) (ms (drop (i + 1) effs)))
       unfolding rest
       goes_on (found c) t is =
           let same : c ≡ change_in t = cc in

@@ -14,11 +14,11 @@ use Rattle.plan_step.specs.declared.failure.StepFail.{StepFail}
 use Rattle.plan_step.specs.declared.failure.StepFail.TheVariants as fail
 use Rattle.plan_step.specs.State.{PlanState}
 use Rattle.plan_step.specs.Met.{Met, found, lacks, passes, and_then}
-use Rattle.plan_step.specs.Evaluation.{objects_of, is_zero_ℤ, evaluated}
+use Rattle.plan_step.specs.Evaluation.{evaluated}
 use Rattle.plan_step.specs.Order.{related}
 use Rattle.plan_step.specs.Conditions.{leaf_met, leaves_met, first_unmet, all_met, goal_met}
-use Rattle.plan_step.specs.Effects.{Change, put, change, target_met, amount_met, change_met, more_changes, all_changes, changed}
-use Rattle.plan_step.specs.Meaning.{compares, holds, all_hold, has_target, amount, change_of, changed_by, value_of}
+use Rattle.plan_step.specs.Effects.{target_met, amount_met, change_met, more_changes, all_changes, changed}
+use Rattle.plan_step.specs.Meaning.{objects_of, is_zero_ℤ, Change, put, change, compares, holds, all_hold, has_target, amount, change_of, changed_by, value_of}
 use Rattle.plan_step.specs.Laws.{IsWide}
 use Rattle.plan_step.proofs.Meanings.{IsPast, Agrees, agrees_then, agrees_as, agrees_operated, value_agrees}
 

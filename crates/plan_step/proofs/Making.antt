@@ -3,9 +3,10 @@ use Rattle.std.proofs.Common.{◌≡◌, ℕ, List, map, sym, ap, subst, ◌∙�
 use Rattle.pddl_task.specs.declared.effect.Effect.{Effect}
 use Rattle.plan_step.specs.declared.touches.Touch.{Touch}
 use Rattle.plan_step.specs.State.{PlanState}
-use Rattle.plan_step.specs.Held.{Held, state_of, KeepsPlaces}
-use Rattle.plan_step.specs.Touches.{Target, target_of, target_in, EachTouch, IsKept, HasPlace, AreTouches, DiffersIn}
-use Rattle.plan_step.specs.Making.{WasBefore}
+use Rattle.plan_step.specs.Held.{Held, state_of}
+use Rattle.plan_step.specs.inside.Places.{KeepsPlaces}
+use Rattle.plan_step.specs.inside.Touches.{Target, target_of, target_in, EachTouch, IsKept, HasPlace, AreTouches, DiffersIn}
+use Rattle.plan_step.specs.inside.Undoing.{WasBefore}
 use Rattle.plan_step.proofs.Placing.{place_among}
 use Rattle.plan_step.proofs.Restoring.{differs_on}
 
@@ -25,17 +26,17 @@ was_before held placed new args effs said_effs touches said also sound leaves sa
       differs = subst R placed_same (subst Q (ap (map target_of) alike ∙ targets) differs);
     }
 
-module _ (targets : List Target) (old : PlanState) (between behind : Held) (touches said : List Touch) (before : WasBefore targets old between touches) (same : said ≡ touches) where
+module _ (targets : List Target) (old : PlanState) (between after : Held) (touches said : List Touch) (before : WasBefore targets old between touches) (same : said ≡ touches) where
   -- what is touched again has its place
-  pub places_on : KeepsPlaces between behind → EachTouch (HasPlace behind) said
+  pub places_on : KeepsPlaces between after → EachTouch (HasPlace after) said
   places_on keeps =
-      let P : List Touch → Type 0 = λ ts. EachTouch (HasPlace behind) ts in
-      subst P (sym same) (place_among between behind touches before.places keeps)
+      let P : List Touch → Type 0 = λ ts. EachTouch (HasPlace after) ts in
+      subst P (sym same) (place_among between after touches before.places keeps)
 
   -- what the touches keep undoes all that touches the same
-  pub undone : (new : PlanState) → DiffersIn targets (state_of between) (state_of behind)
-      → ((s : PlanState) → EachTouch (IsKept s) said → DiffersIn (map target_of said) s (state_of behind) → new ≡ s) → new ≡ old
-  undone new differs restored =
+  pub undo_all : (new : PlanState) → DiffersIn targets (state_of between) (state_of after)
+      → ((s : PlanState) → EachTouch (IsKept s) said → DiffersIn (map target_of said) s (state_of after) → new ≡ s) → new ≡ old
+  undo_all new differs restored =
       let P : List Touch → Type 0 = λ ts. EachTouch (IsKept old) ts in
-      let Q : List Target → Type 0 = λ ts. DiffersIn ts old (state_of behind) in
-      restored old (subst P (sym same) before.kept) (subst Q (sym (ap (map target_of) same ∙ before.targets_are)) (differs_on targets old (state_of between) (state_of behind) before.differs differs))
+      let Q : List Target → Type 0 = λ ts. DiffersIn ts old (state_of after) in
+      restored old (subst P (sym same) before.kept) (subst Q (sym (ap (map target_of) same ∙ before.targets_are)) (differs_on targets old (state_of between) (state_of after) before.differs differs))

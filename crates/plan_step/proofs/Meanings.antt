@@ -17,8 +17,8 @@ use Rattle.pddl_task.specs.declared.expression.Expr.TheFolds.{fold-Expr, fold-ro
 use Rattle.pddl_task.specs.declared.expression.Expr.TheViews.{roll-Expr}
 use Rattle.plan_step.specs.State.{PlanState}
 use Rattle.plan_step.specs.Met.{Met, found, lacks, passes, and_then, passes_128, wide, operated, value_or_none}
-use Rattle.plan_step.specs.Evaluation.{objects_of, is_zero_ℤ, folded_from, folded, divided, evaluated}
-use Rattle.plan_step.specs.Meaning.{with_both, plus, times, minus, sum_of, product_of, quotient_of, value_step, value_of}
+use Rattle.plan_step.specs.Evaluation.{folded_from, folded, divided, evaluated}
+use Rattle.plan_step.specs.Meaning.{objects_of, is_zero_ℤ, with_both, plus, times, minus, sum_of, product_of, quotient_of, value_step, value_of}
 use Rattle.plan_step.proofs.Expressions.{evaluated-num, evaluated-call, evaluated-add, evaluated-mul, evaluated-neg, evaluated-sub, evaluated-div}
 
 -- an operation that is met passes 128 bits
@@ -50,9 +50,9 @@ if_wide false w x past = refl
 pub agrees_operated : (op : Op) (x y : Fraction) → Agrees (operated op x y) (Some (operations.value_of op x y))
 agrees_operated op x y = if_wide (passes_128 op x y) (wide op x y) (operations.value_of op x y) (λ e. e)
 
-behind_operated : (b : Bool) (w : Wide) (x : Fraction) (f : Fraction → Met Fraction) (o : Option Fraction) → (b ≡ true → IsPast w) → Agrees (f x) o → Agrees (and_then (cond b (passes w) (found x)) f) o
-behind_operated true w x f o past h = past refl
-behind_operated false w x f o past h = h
+after_operated : (b : Bool) (w : Wide) (x : Fraction) (f : Fraction → Met Fraction) (o : Option Fraction) → (b ≡ true → IsPast w) → Agrees (f x) o → Agrees (and_then (cond b (passes w) (found x)) f) o
+after_operated true w x f o past h = past refl
+after_operated false w x f o past h = h
 
 both_is : (g : Fraction → Fraction → Fraction) (a b : Option Fraction) → option_and_then (λ x. option_and_then (λ y. Some (g x y)) b) a ≡ with_both g a b
 both_is g None b = refl
@@ -89,7 +89,7 @@ module _ (o : Op) (g : Fraction → Fraction → Fraction) (all : List (Option F
         let rest = all (map value (map (λ (q : (e : E) × agree e). q.0) parts)) in
         agrees_as (and_then (met p.0) (λ y. and_then (operated o x y) (λ z. folded_from o z ms))) _ _
         (agrees_then (met p.0) (value p.0) (λ y. and_then (operated o x y) (λ z. folded_from o z ms)) (λ y. with_both g (Some (g x y)) rest) (agrees p.0 p.1)
-        (λ y. behind_operated (passes_128 o x y) (wide o x y) (operations.value_of o x y) (λ z. folded_from o z ms) (with_both g (Some (g x y)) rest) (λ e. e)
+        (λ y. after_operated (passes_128 o x y) (wide o x y) (operations.value_of o x y) (λ z. folded_from o z ms) (with_both g (Some (g x y)) rest) (λ e. e)
         (let P : Fraction → Type 0 = λ v. Agrees (folded_from o v ms) (with_both g (Some (g x y)) rest) in subst P (sym (is x y)) (fold_agrees (g x y) parts))))
         (regroup x (value p.0) rest ∙ ap (with_both g (Some x)) (sym (one (value p.0) (map value (map (λ (q : (e : E) × agree e). q.0) parts)))))
 

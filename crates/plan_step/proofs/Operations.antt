@@ -10,7 +10,8 @@ use Rattle.frac128.specs.Operations.{Answers, named_numbers, value_of}
 use Rattle.frac128.specs.declared.operations.Op.{Op}
 use Rattle.frac128.specs.declared.operations.Wide.{Wide}
 use Rattle.plan_step.specs.Met.{found, lacks, passes, is_past, passes_128, wide, operated, met_of_value}
-use Rattle.plan_step.specs.Evaluation.{is_zero_ℤ, divided}
+use Rattle.plan_step.specs.Evaluation.{divided}
+use Rattle.plan_step.specs.Meaning.{is_zero_ℤ}
 use Rattle.frac128.specs.declared.operations.Op.TheVariants as op
 
 within_not_past : (z : ℤ) → IsWithin z → is_past z ≡ false

@@ -13,10 +13,10 @@ use Rattle.plan_step.specs.declared.failure.StepFail.{StepFail}
 use Rattle.plan_step.specs.declared.failure.StepFail.TheVariants as fail
 use Rattle.plan_step.specs.State.{PlanState}
 use Rattle.plan_step.specs.Met.{Met, found, lacks, passes}
-use Rattle.plan_step.specs.Effects.{Change, clashes, change_met, more_changes, all_changes, first_clash}
+use Rattle.plan_step.specs.Effects.{change_met, more_changes, all_changes, first_clash}
 use Rattle.plan_step.specs.Conditions.{leaf_met, leaves_met, first_unmet}
-use Rattle.plan_step.specs.Step.{then_next, action_with, action_for, fits, all_fit, typed_arguments, made_by, step_from}
-use Rattle.plan_step.specs.Meaning.{holds, all_hold, change_of, IsClean, IsInstanceOf, HasStep}
+use Rattle.plan_step.specs.Step.{then_next, action_with, action_for, typed_arguments, made_by, step_from}
+use Rattle.plan_step.specs.Meaning.{Change, clashes, fits, all_fit, holds, all_hold, change_of, IsClean, IsInstanceOf, HasStep}
 use Rattle.plan_step.specs.Laws.{IsWide, IsRefutal, FailsOnly}
 use Rattle.plan_step.specs.Reasons.{HasNoAction, HasUnfitArgument, IsFirstUnmet, IsFirstWithoutValue, IsFirstClash, FailsBy}
 use Rattle.plan_step.proofs.Meanings.{Agrees}
@@ -34,7 +34,7 @@ next_only : {A B : Type 0} (e : StepFail) (r : Result A StepFail) (next : A → 
 next_only e (Ok a) next h = absurd h
 next_only e (Err f) next h = h
 
--- or behind it
+-- or after it
 next_wide : {A B : Type 0} (e : StepFail) (r : Result A StepFail) (next : A → Result B StepFail) → ((f : StepFail) → r ≡ Err f → IsWide f) → ((a : A) → r ≡ Ok a → FailsOnly e (next a)) → FailsOnly e (then_next r next)
 next_wide e (Ok a) next h k = k a refl
 next_wide e (Err f) next h k = inr (h f refl)

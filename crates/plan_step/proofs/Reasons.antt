@@ -12,18 +12,18 @@ use Rattle.plan_step.specs.declared.failure.StepFail.{StepFail}
 use Rattle.plan_step.specs.declared.failure.StepFail.TheVariants as fail
 use Rattle.plan_step.specs.State.{PlanState}
 use Rattle.plan_step.specs.Met.{Met, found, lacks, passes}
-use Rattle.plan_step.specs.Effects.{Change, clashes, change_met, all_changes, first_clash, values_behind}
+use Rattle.plan_step.specs.Effects.{change_met, all_changes, first_clash, values_after}
 use Rattle.plan_step.specs.Conditions.{leaf_met, leaves_met, first_unmet}
-use Rattle.plan_step.specs.Step.{then_next, action_with, action_for, fits, all_fit, typed_arguments, made_by, step_from}
-use Rattle.plan_step.specs.Meaning.{holds, all_hold, change_of, IsClean, IsInstanceOf}
+use Rattle.plan_step.specs.Step.{then_next, action_with, action_for, typed_arguments, made_by, step_from}
+use Rattle.plan_step.specs.Meaning.{Change, clashes, fits, all_fit, holds, all_hold, change_of, IsClean, IsInstanceOf}
 use Rattle.plan_step.specs.Laws.{IsWide, TellsWide}
 use Rattle.plan_step.specs.Reasons.{FailsBy}
 use Rattle.plan_step.proofs.Meanings.{Agrees}
 use Rattle.plan_step.proofs.LeafLaws.{LeafAgrees, leaf_agrees, change_agrees, gathered, gathered_is, on_err, conditions_hold, changes_are}
-use Rattle.plan_step.proofs.StepLaws.{same_some, not_any, took, take_get, action_is, typed_is, behind_fails}
+use Rattle.plan_step.proofs.StepLaws.{same_some, not_any, took, take_get, action_is, typed_is, after_fails}
 use Rattle.plan_step.proofs.WideLaws.{wide_step}
 
--- a row of tests fails at the first, or behind it
+-- a row of tests fails at the first, or after it
 next_err : {A B : Type 0} (r : Result A StepFail) (next : A → Result B StepFail) (e : StepFail) → then_next r next ≡ Err e → (r ≡ Err e) ⊎ ((a : A) × (r ≡ Ok a) × (next a ≡ Err e))
 next_err (Ok a) next e is = inr (a, refl, is)
 next_err (Err f) next e is = let same : f ≡ e = cc in inl (ap (λ (g : StepFail). Err g) same)
@@ -266,7 +266,7 @@ module _ (task : TaskParts) (s : PlanState) (by : Instance) where
                 | inr v ↦
                     elim (next_err (first_clash 0 [] v.0) _ e v.2) [
                       | inl h ↦ clash_reason conditions v.0 (changes_are s by.args a.effs 0 v.0 v.1) e h
-                      | inr f ↦ wide_reason e (behind_fails v.0 s (values_behind v.0 s.value) e f.2) tells
+                      | inr f ↦ wide_reason e (after_fails v.0 s (values_after v.0 s.value) e f.2) tells
                     ]
               ]
         ]

@@ -8,7 +8,8 @@ use Rattle.plan_step.specs.declared.failure.RepeatFail.{RepeatFail}
 use Rattle.plan_step.specs.State.{PlanState}
 use Rattle.plan_step.specs.Step.{step_from}
 use Rattle.plan_step.specs.Making.{Makes, MakesFail}
-use Rattle.plan_step.specs.Repeat.{repeat_fail, then_again, repeated_from, RepeatFails, AnswersFail}
+use Rattle.plan_step.specs.Repeat.{repeat_fail, then_again, repeated_from, RepeatFails}
+use Rattle.plan_step.specs.inside.Repeating.{AnswersFail}
 
 -- an answer that is no failure
 pub made_where : {A : Type 0} (meant : Result PlanState StepFail) (old new : PlanState) (r : Result A StepFail) → Makes {A = A} meant old new r → ((e : StepFail) → r ≡ Err e → ⊥) → meant ≡ Ok new

@@ -7,10 +7,9 @@ use Rattle.pddl_task.specs.declared.parts.TaskParts.{TaskParts}
 use Rattle.plan_step.specs.declared.failure.StepFail.{StepFail}
 use Rattle.plan_step.specs.declared.failure.RepeatFail.{RepeatFail}
 use Rattle.plan_step.specs.State.{PlanState, initial}
-use Rattle.plan_step.specs.Effects.{Change, truth_behind}
 use Rattle.plan_step.specs.Step.{step_from}
 use Rattle.plan_step.specs.Repeat.{repeat_fail, then_again, repeated_from}
-use Rattle.plan_step.specs.Meaning.{all_hold, change_of, value_behind, HasStep, Run, ended, stepped, IsValidPlan}
+use Rattle.plan_step.specs.Meaning.{Change, truth_after, all_hold, change_of, value_after, HasStep, Run, ended, stepped, IsValidPlan}
 use Rattle.plan_step.specs.Laws.{IsWide}
 use Rattle.plan_step.proofs.Truths.{one_state}
 use Rattle.plan_step.proofs.Repetitions.{repeated_none, repeated_next}
@@ -25,8 +24,8 @@ one_step task old s t by h k =
     let action : h.action ≡ k.action = same_action h.action k.action (sym h.of_action.is_action ∙ k.of_action.is_action) in
     let changes : h.changes ≡ k.changes = one_list h.changes k.changes (sym h.values ∙ ap (λ (a : Action). map (change_of old by.args) a.effs) action ∙ k.values) in
     one_state s t
-    (λ p args. h.truth p args ∙ ap (λ (cs : List Change). truth_behind cs old.truth p args) changes ∙ sym (k.truth p args))
-    (λ f args. h.value f args ∙ ap (λ (cs : List Change). value_behind cs f args (old.value f args)) changes ∙ sym (k.value f args))
+    (λ p args. h.truth p args ∙ ap (λ (cs : List Change). truth_after cs old.truth p args) changes ∙ sym (k.truth p args))
+    (λ f args. h.value f args ∙ ap (λ (cs : List Change). value_after cs f args (old.value f args)) changes ∙ sym (k.value f args))
 
 -- a run begins with a step, or has none
 split : (task : TaskParts) (s t : PlanState) (by : Instance) (more : List Instance) → Run task s (by ∷ more) t → (next : PlanState) × HasStep task s by next × Run task next more t
@@ -73,18 +72,18 @@ module _ (task : TaskParts) (by : Instance) where
   none_ok : (at : ℕ) (s t : PlanState) → repeated_from task by at zero s ≡ Ok t → s ≡ t
   none_ok at s t is = let same : Ok s ≡ Ok t = sym (repeated_none task by at zero s refl) ∙ is in cc
 
-  -- a repetition that is made is a run, with more behind it
+  -- a repetition that is made is a run, with more after it
   pub made_run : (n at : ℕ) (s t u : PlanState) (more : List Instance) → repeated_from task by at n s ≡ Ok t → Run task t more u → Run task s (replicate n by ++ more) u
   made_run zero at s t u more is r = let P : PlanState → Type 0 = λ v. Run task v more u in subst P (sym (none_ok at s t is)) r
   made_run (suc n) at s t u more is r = let a = first_ok at n s t is in stepped (step_has_step task s a.0 by a.1) (made_run n (at + 1) a.0 t u more a.2 r)
 
-  -- what is behind a repetition that is made
-  pub run_behind : (n at : ℕ) (s t u : PlanState) (more : List Instance) → repeated_from task by at n s ≡ Ok t → Run task s (replicate n by ++ more) u → Run task t more u
-  run_behind zero at s t u more is r = let P : PlanState → Type 0 = λ v. Run task v more u in subst P (none_ok at s t is) r
-  run_behind (suc n) at s t u more is r =
+  -- what is after a repetition that is made
+  pub run_after : (n at : ℕ) (s t u : PlanState) (more : List Instance) → repeated_from task by at n s ≡ Ok t → Run task s (replicate n by ++ more) u → Run task t more u
+  run_after zero at s t u more is r = let P : PlanState → Type 0 = λ v. Run task v more u in subst P (none_ok at s t is) r
+  run_after (suc n) at s t u more is r =
       let a = first_ok at n s t is in
       let b = split task s u by (replicate n by ++ more) r in
-      run_behind n (at + 1) a.0 t u more a.2 (let P : PlanState → Type 0 = λ v. Run task v (replicate n by ++ more) u in subst P (one_step task s b.0 a.0 by b.1 (step_has_step task s a.0 by a.1)) b.2)
+      run_after n (at + 1) a.0 t u more a.2 (let P : PlanState → Type 0 = λ v. Run task v (replicate n by ++ more) u in subst P (one_step task s b.0 a.0 by b.1 (step_has_step task s a.0 by a.1)) b.2)
 
   -- a repetition that fails, operations that pass aside, has no run
   pub failed_wide : (n at : ℕ) (s u : PlanState) (more : List Instance) (f : RepeatFail) → repeated_from task by at n s ≡ Err f → Run task s (replicate n by ++ more) u → IsWide f.fail
@@ -97,7 +96,7 @@ module _ (task : TaskParts) (by : Instance) where
       ]
 
   -- where a repetition fails: so many steps in front are made, and the next fails
-  pub record FailsBehind (n at : ℕ) (s : PlanState) (f : RepeatFail) : Type 0 where
+  pub record FailsAfter (n at : ℕ) (s : PlanState) (f : RepeatFail) : Type 0 where
     pub made : ℕ
     pub within : made < n
     pub number : f.at ≡ at + made
@@ -109,9 +108,9 @@ module _ (task : TaskParts) (by : Instance) where
   fails_at at r next f e failed is =
       let same : repeat_fail at e ≡ f = cc (ap (λ (q : Result PlanState StepFail). then_again at q next) failed) in ap (λ (g : RepeatFail). g.at) (sym same)
 
-  pub failed_behind : (n at : ℕ) (s : PlanState) (f : RepeatFail) → repeated_from task by at n s ≡ Err f → FailsBehind n at s f
-  failed_behind zero at s f is = let never : Ok s ≡ Err f = sym (repeated_none task by at zero s refl) ∙ is in cc
-  failed_behind (suc n) at s f is =
+  pub failed_after : (n at : ℕ) (s : PlanState) (f : RepeatFail) → repeated_from task by at n s ≡ Err f → FailsAfter n at s f
+  failed_after zero at s f is = let never : Ok s ≡ Err f = sym (repeated_none task by at zero s refl) ∙ is in cc
+  failed_after (suc n) at s f is =
       let first : then_again at (step_from task s by) (repeated_from task by (at + 1) n) ≡ Err f = sym (repeated_next task by at (suc n) n s (omega arith)) ∙ is in
       elim (again_fails at (step_from task s by) (repeated_from task by (at + 1) n) f first) [
         | inl e ↦ record {
@@ -123,7 +122,7 @@ module _ (task : TaskParts) (by : Instance) where
           fails = e;
         }
         | inr a ↦
-            let h = failed_behind n (at + 1) a.0 f a.2 in
+            let h = failed_after n (at + 1) a.0 f a.2 in
             record {
               made = suc h.made;
               within = let w : h.made < n = h.within in omega arith;

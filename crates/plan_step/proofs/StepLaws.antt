@@ -18,10 +18,10 @@ use Rattle.plan_step.specs.declared.failure.StepFail.{StepFail}
 use Rattle.plan_step.specs.declared.failure.StepFail.TheVariants as fail
 use Rattle.plan_step.specs.State.{PlanState}
 use Rattle.plan_step.specs.Met.{Met, found, lacks, passes, and_then, passes_128, wide, operated}
-use Rattle.plan_step.specs.Effects.{Change, put, change, target_met, clashes, first_clash, changed, with_value, values_behind, truth_behind, all_changes, change_met}
+use Rattle.plan_step.specs.Effects.{target_met, first_clash, changed, with_value, values_after, all_changes, change_met}
 use Rattle.plan_step.specs.Conditions.{first_unmet, leaves_met}
-use Rattle.plan_step.specs.Step.{then_next, action_with, action_for, all_fit, typed_arguments, with_values, made_by, step_from}
-use Rattle.plan_step.specs.Meaning.{IsClean, changed_by, value_behind, HasStep}
+use Rattle.plan_step.specs.Step.{then_next, action_with, action_for, typed_arguments, with_values, made_by, step_from}
+use Rattle.plan_step.specs.Meaning.{Change, put, change, clashes, truth_after, all_fit, IsClean, changed_by, value_after, HasStep}
 use Rattle.plan_step.specs.Laws.{IsWide}
 use Rattle.plan_step.proofs.Meanings.{Agrees}
 use Rattle.plan_step.proofs.LeafLaws.{conditions_hold, conditions_fail, changes_are, changes_fail, changed_agrees, HaveValues, have_values}
@@ -110,17 +110,17 @@ operation_there : (o : Op) (x y : Fraction) → operated o x y ≡ lacks → ⊥
 operation_there o x y is = no_lack (passes_128 o x y) (wide o x y) (value_of o x y) is
 
 value_step : (op : NumOp) (g : ℕ) (xs : List ℕ) (by x : Fraction) (more : List Change) (v : Values) (f : ℕ) (args : List ℕ) (b : Bool) → (g == f && bytes_eq xs args) ≡ b → changed_by op by (v g xs) ≡ Some x
-    → value_behind more f args (cond b (Some x) (v f args)) ≡ cond b (value_behind more f args (changed_by op by (v f args))) (value_behind more f args (v f args))
-value_step op g xs by x more v f args true here changes = ap (value_behind more f args) (sym changes ∙ ap (changed_by op by) (sym (one_call v g f xs args here)))
+    → value_after more f args (cond b (Some x) (v f args)) ≡ cond b (value_after more f args (changed_by op by (v f args))) (value_after more f args (v f args))
+value_step op g xs by x more v f args true here changes = ap (value_after more f args) (sym changes ∙ ap (changed_by op by) (sym (one_call v g f xs args here)))
 value_step op g xs by x more v f args false here changes = refl
 
-pub values_are : (changes : List Change) (v w : Values) → values_behind changes v ≡ found w → (f : ℕ) (args : List ℕ) → w f args ≡ value_behind changes f args (v f args)
+pub values_are : (changes : List Change) (v w : Values) → values_after changes v ≡ found w → (f : ℕ) (args : List ℕ) → w f args ≡ value_after changes f args (v f args)
 values_are [] v w is f args = let same : v ≡ w = cc in ap (λ (u : Values). u f args) (sym same)
 values_are (put sign p xs ∷ changes) v w is f args = values_are changes v w is f args
 values_are (change op g xs by ∷ changes) v w is f args =
-    let t = found_then (changed op (v g xs) by) (λ x. values_behind changes (with_value v g xs x)) w is in
+    let t = found_then (changed op (v g xs) by) (λ x. values_after changes (with_value v g xs x)) w is in
     values_are changes (with_value v g xs t.0) w t.2 f args
-    ∙ ap (λ b. value_behind changes f args (cond b (Some t.0) (v f args))) (flipped f g args xs)
+    ∙ ap (λ b. value_after changes f args (cond b (Some t.0) (v f args))) (flipped f g args xs)
     ∙ value_step op g xs by t.0 changes v f args (g == f && bytes_eq xs args) refl (agreed (changed op (v g xs) by) (changed_by op by (v g xs)) t.0 (changed_agrees op (v g xs) by) t.1)
 
 -- ---- no change lacks a value
@@ -149,11 +149,11 @@ lacks_then (found x) next h k is = k x is
 lacks_then lacks next h k is = h refl
 lacks_then (passes w) next h k is = cc
 
-pub never_lacks : (changes : List Change) (v : Values) → HaveValues v changes → values_behind changes v ≡ lacks → ⊥
+pub never_lacks : (changes : List Change) (v : Values) → HaveValues v changes → values_after changes v ≡ lacks → ⊥
 never_lacks [] v h is = cc
 never_lacks (put sign p xs ∷ changes) v h is = never_lacks changes v h.1 is
 never_lacks (change op g xs by ∷ changes) v h is =
-    lacks_then (changed op (v g xs) by) (λ x. values_behind changes (with_value v g xs x)) (with_target op (v g xs) by h.0)
+    lacks_then (changed op (v g xs) by) (λ x. values_after changes (with_value v g xs x)) (with_target op (v g xs) by h.0)
     (λ x. never_lacks changes (with_value v g xs x) (values_kept changes v g xs x h.1)) is
 
 -- ---- the parts of a step
@@ -175,12 +175,12 @@ pub typed_is : (b : Bool) → ◌≡◌ {A = Result (Unit {0}) StepFail} (cond b
 typed_is true is = refl
 typed_is false is = cc
 
-behind_is : (changes : List Change) (old new : PlanState) (m : Met Values) → with_values changes old m ≡ Ok new → (m ≡ lacks → ⊥) → (w : Values) × (m ≡ found w) × ((p : ℕ) (args : List ℕ) → new.truth p args ≡ truth_behind changes old.truth p args) × (new.value ≡ w)
-behind_is changes old new (found w) is there =
-    let same : record_of (truth_behind changes old.truth) w ≡ new = cc in
+after_is : (changes : List Change) (old new : PlanState) (m : Met Values) → with_values changes old m ≡ Ok new → (m ≡ lacks → ⊥) → (w : Values) × (m ≡ found w) × ((p : ℕ) (args : List ℕ) → new.truth p args ≡ truth_after changes old.truth p args) × (new.value ≡ w)
+after_is changes old new (found w) is there =
+    let same : record_of (truth_after changes old.truth) w ≡ new = cc in
     (w, refl, λ p args. ap (λ (s : PlanState). s.truth p args) (sym same), ap (λ (s : PlanState). s.value) (sym same))
-behind_is changes old new lacks is there = absurd (there refl)
-behind_is changes old new (passes w) is there = cc
+after_is changes old new lacks is there = absurd (there refl)
+after_is changes old new (passes w) is there = cc
 
 -- a step that is made is a step
 pub step_has_step : (task : TaskParts) (old new : PlanState) (by : Instance) → step_from task old by ≡ Ok new → HasStep task old by new
@@ -191,7 +191,7 @@ step_has_step task old new by is =
     let c = next_ok (first_unmet 0 (leaves_met old by.args a.0.conds)) _ new t.2 in
     let v = next_ok (all_changes 0 (map (change_met old by.args) a.0.effs)) _ new c.2 in
     let f = next_ok (first_clash 0 [] v.0) _ new v.2 in
-    let b = behind_is v.0 old new (values_behind v.0 old.value) f.2 (never_lacks v.0 old.value (have_values old by.args a.0.effs 0 v.0 v.1)) in
+    let b = after_is v.0 old new (values_after v.0 old.value) f.2 (never_lacks v.0 old.value (have_values old by.args a.0.effs 0 v.0 v.1)) in
     let s = action_is (length by.args) (slice_get task.actions by.action) a.0 a.1 in
     record {
       action = a.0;
@@ -228,10 +228,10 @@ one_list (c ∷ cs) (d ∷ ds) is =
     let tail : map (λ (x : Change). Some x) cs ≡ map (λ (x : Change). Some x) ds = cc in
     ap₂ (λ (x : Change) (xs : List Change). x ∷ xs) head (one_list cs ds tail)
 
-pub behind_fails : (changes : List Change) (old : PlanState) (m : Met Values) (e : StepFail) → with_values changes old m ≡ Err e → IsWide e
-behind_fails changes old (found w) e is = cc
-behind_fails changes old lacks e is = cc
-behind_fails changes old (passes w) e is = let same : fail.Wide w ≡ e = cc in subst IsWide same tt
+pub after_fails : (changes : List Change) (old : PlanState) (m : Met Values) (e : StepFail) → with_values changes old m ≡ Err e → IsWide e
+after_fails changes old (found w) e is = cc
+after_fails changes old lacks e is = cc
+after_fails changes old (passes w) e is = let same : fail.Wide w ≡ e = cc in subst IsWide same tt
 
 -- an instance that has a step fails, if at all, by an operation that passes
 pub step_fails_wide : (task : TaskParts) (old new : PlanState) (by : Instance) (e : StepFail) → HasStep task old by new → step_from task old by ≡ Err e → IsWide e
@@ -245,4 +245,4 @@ step_fails_wide task old new by e h is =
     (λ u met then_changes. next_fails (all_changes 0 (map (change_met old by.args) h.action.effs)) _ e (changes_fail old by.args h.action.effs 0 h.changes e h.values)
     (λ changes gathered then_clash. let same : h.changes ≡ changes = one_list h.changes changes (sym h.values ∙ changes_are old by.args h.action.effs 0 changes gathered) in
     next_fails (first_clash 0 [] changes) _ e (is_there (first_clash 0 [] changes) tt e (ap (first_clash 0 []) (sym same) ∙ clean_passes h.changes h.clean))
-    (λ u free then_values. behind_fails changes old (values_behind changes old.value) e then_values) then_clash) then_changes) made
+    (λ u free then_values. after_fails changes old (values_after changes old.value) e then_values) then_clash) then_changes) made

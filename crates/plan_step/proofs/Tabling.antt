@@ -9,9 +9,10 @@ use Rattle.rational.specs.Fraction.{Fraction}
 use Rattle.pddl_task.specs.declared.effect.NumOp.{NumOp}
 use Rattle.plan_step.specs.declared.failure.StepFail.TheVariants as fail
 use Rattle.plan_step.specs.declared.touches.Touch.{Touch}
-use Rattle.plan_step.specs.Effects.{Change, put, change, adds_up, clashes, first_clash}
-use Rattle.plan_step.specs.Touches.{change_in, changes_of}
-use Rattle.plan_step.specs.Sums.{Table, clash_with, clash_told, IsAdded}
+use Rattle.plan_step.specs.Effects.{first_clash}
+use Rattle.plan_step.specs.Meaning.{Change, put, change, adds_up, clashes}
+use Rattle.plan_step.specs.inside.Touches.{change_in, changes_of}
+use Rattle.plan_step.specs.inside.Sums.{Table, clash_with, clash_told, IsAdded}
 use Rattle.plan_step.proofs.Booleans.{flipped, or_false, neither_true, number_itself, arguments_itself}
 use Rattle.plan_step.proofs.Restoring.{chosen, one_call}
 use Rattle.plan_step.proofs.Placing.{changes_more}
@@ -106,7 +107,7 @@ clash_is changes table tells (put sign p args) = any_none (clashes (put sign p a
 clash_is changes table tells (change op f args by) =
     any_same (clashes (change op f args by)) (clash_test f args (adds_up op)) (same_test op f args by) changes ∙ by_adds f args (adds_up op) changes ∙ ap (clash_with (adds_up op)) (sym (tells.says f args))
 
--- ---- the table behind one more change
+-- ---- the table after one more change
 module _ (changes : List Change) where
   told_push : (c : Change) (g : ℕ) (xs : List ℕ)
       → told (changes ++ c ∷ []) g xs ≡ cond (list_any (changes_function g xs) changes || (changes_function g xs c || false)) (Some (not (list_any (is_no_sum g xs) changes || (is_no_sum g xs c || false)))) None

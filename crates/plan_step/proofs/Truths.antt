@@ -8,10 +8,10 @@ use Rattle.rational.specs.Fraction.{Fraction}
 use Rattle.plan_step.specs.declared.touches.Touch.{Touch}
 use Rattle.plan_step.specs.declared.touches.Touch.TheVariants as touch
 use Rattle.plan_step.specs.State.{PlanState}
-use Rattle.plan_step.specs.Held.{with_atom}
-use Rattle.plan_step.specs.Effects.{Change, put, change, puts}
-use Rattle.plan_step.specs.Touches.{change_in}
-use Rattle.plan_step.specs.Application.{with_truths, put_by}
+use Rattle.plan_step.specs.inside.Places.{with_atom}
+use Rattle.plan_step.specs.Meaning.{Change, put, change, puts}
+use Rattle.plan_step.specs.inside.Touches.{change_in}
+use Rattle.plan_step.specs.inside.Application.{with_truths, put_by}
 use Rattle.plan_step.proofs.Booleans.{flipped}
 
 abbrev pub state_with : (ℕ → List ℕ → Bool) → (ℕ → List ℕ → Option Fraction) → PlanState
@@ -28,7 +28,7 @@ module _ (b : Bool) (changes : List Change) (s : PlanState) where
   choice false true z = refl
   choice false false z = refl
 
-  -- an atom behind one more change
+  -- an atom after one more change
   push : (c : Change) (p : ℕ) (args : List ℕ) → (with_truths b (changes ++ c ∷ []) s).truth p args ≡ cond (puts b p args c) b ((with_truths b changes s).truth p args)
   push c p args = ap (λ t. cond t b (s.truth p args)) (list_any-append (puts b p args) changes (c ∷ [])) ∙ choice (list_any (puts b p args) changes) (puts b p args c) (s.truth p args)
 
@@ -46,7 +46,7 @@ atom_by true false old p args changes s = other true changes s (put false p args
 atom_by false true old p args changes s = other false changes s (put true p args) (λ q others. refl)
 atom_by false false old p args changes s = own false changes s (put false p args) p args (λ q others. refl)
 
--- a touch behind others
+-- a touch after others
 pub truths_more : (b : Bool) (t : Touch) (changes : List Change) (s : PlanState) → put_by b t (with_truths b changes s) ≡ with_truths b (changes ++ change_in t ∷ []) s
 truths_more b (touch.Atom sign p args old) changes s = atom_by b sign old p args changes s
 truths_more b (touch.Function op f args by old) changes s = other b changes s (change op f args by) (λ q others. refl)

@@ -12,10 +12,11 @@ use Rattle.plan_step.specs.declared.touches.Touch.{Touch}
 use Rattle.plan_step.specs.declared.touches.Touch.TheVariants as touch
 use Rattle.plan_step.specs.State.{PlanState}
 use Rattle.plan_step.specs.Met.{Met, found, passes, and_then}
-use Rattle.plan_step.specs.Held.{with_function}
-use Rattle.plan_step.specs.Effects.{Change, target_met, with_value, values_behind}
-use Rattle.plan_step.specs.Touches.{Target, target_of, change_in, changes_of, HasTarget, DiffersIn, is_function}
-use Rattle.plan_step.specs.Application.{TouchChanges}
+use Rattle.plan_step.specs.inside.Places.{with_function}
+use Rattle.plan_step.specs.Effects.{target_met, with_value, values_after}
+use Rattle.plan_step.specs.Meaning.{Change}
+use Rattle.plan_step.specs.inside.Touches.{Target, target_of, change_in, changes_of, HasTarget, DiffersIn, is_function}
+use Rattle.plan_step.specs.inside.Application.{TouchChanges}
 use Rattle.plan_step.proofs.Booleans.{flipped}
 use Rattle.plan_step.proofs.Restoring.{chosen, differs_refl}
 
@@ -43,15 +44,15 @@ has_value ScaleUp x = refl
 has_value ScaleDown x = refl
 
 module _ (old new : PlanState) where
-  -- the rest of the changes, from the values behind the first
-  pub values_step : (t : Touch) (more : List Change) (r : Unit {0}) → TouchChanges t old new (Ok r) → values_behind (change_in t ∷ more) old.value ≡ values_behind more new.value
-  values_step (touch.Atom sign p args kept) more r h = ap (λ (s : PlanState). values_behind more s.value) (sym h)
+  -- the rest of the changes, from the values after the first
+  pub values_step : (t : Touch) (more : List Change) (r : Unit {0}) → TouchChanges t old new (Ok r) → values_after (change_in t ∷ more) old.value ≡ values_after more new.value
+  values_step (touch.Atom sign p args kept) more r h = ap (λ (s : PlanState). values_after more s.value) (sym h)
   values_step (touch.Function op f args by kept) more r h =
-      ap (λ (m : Met Fraction). and_then m (λ x. values_behind more (with_value old.value f args x))) h.1 ∙ ap (λ (s : PlanState). values_behind more s.value) (sym h.2)
+      ap (λ (m : Met Fraction). and_then m (λ x. values_after more (with_value old.value f args x))) h.1 ∙ ap (λ (s : PlanState). values_after more s.value) (sym h.2)
 
-  pub values_fail : (t : Touch) (more : List Change) (w : Wide) → TouchChanges t old new (Err w) → values_behind (change_in t ∷ more) old.value ≡ passes w
+  pub values_fail : (t : Touch) (more : List Change) (w : Wide) → TouchChanges t old new (Err w) → values_after (change_in t ∷ more) old.value ≡ passes w
   values_fail (touch.Atom sign p args kept) more w h = absurd h
-  values_fail (touch.Function op f args by kept) more w h = ap (λ (m : Met Fraction). and_then m (λ x. values_behind more (with_value old.value f args x))) h.0
+  values_fail (touch.Function op f args by kept) more w h = ap (λ (m : Met Fraction). and_then m (λ x. values_after more (with_value old.value f args x))) h.0
 
   pub truth_step : (t : Touch) (r : Unit {0}) → TouchChanges t old new (Ok r) → new.truth ≡ old.truth
   truth_step (touch.Atom sign p args kept) r h = ap (λ (s : PlanState). s.truth) h
@@ -84,17 +85,17 @@ module _ (old new : PlanState) where
 
 module _ (touches : List Touch) (first : PlanState) where
   abbrev pub AreChanged : ℕ → PlanState → Type 0
-  AreChanged i s = values_behind (changes_of touches) first.value ≡ values_behind (changes_of (drop i touches)) s.value
+  AreChanged i s = values_after (changes_of touches) first.value ≡ values_after (changes_of (drop i touches)) s.value
 
   split : (i : ℕ) (t : Touch) (s : PlanState) → i < length touches → t ≡ get_or touches i t
-      → values_behind (changes_of (drop i touches)) s.value ≡ values_behind (change_in t ∷ changes_of (drop (i + 1) touches)) s.value
-  split i t s within is = at_drop_more (λ us. values_behind (changes_of us) s.value) touches i t within ∙ ap (λ (u : Touch). values_behind (change_in u ∷ changes_of (drop (i + 1) touches)) s.value) (sym is)
+      → values_after (changes_of (drop i touches)) s.value ≡ values_after (change_in t ∷ changes_of (drop (i + 1) touches)) s.value
+  split i t s within is = at_drop_more (λ us. values_after (changes_of us) s.value) touches i t within ∙ ap (λ (u : Touch). values_after (change_in u ∷ changes_of (drop (i + 1) touches)) s.value) (sym is)
 
   pub changed_more : (i : ℕ) (t : Touch) (s new : PlanState) → AreChanged i s → i < length touches → t ≡ get_or touches i t → (r : Unit {0}) → TouchChanges t s new (Ok r) → AreChanged (i + 1) new
   changed_more i t s new h within is r changes = h ∙ split i t s within is ∙ values_step s new t (changes_of (drop (i + 1) touches)) r changes
 
-  pub change_fails : (i : ℕ) (t : Touch) (s new : PlanState) → AreChanged i s → i < length touches → t ≡ get_or touches i t → (w : Wide) → TouchChanges t s new (Err w) → values_behind (changes_of touches) first.value ≡ passes w
+  pub change_fails : (i : ℕ) (t : Touch) (s new : PlanState) → AreChanged i s → i < length touches → t ≡ get_or touches i t → (w : Wide) → TouchChanges t s new (Err w) → values_after (changes_of touches) first.value ≡ passes w
   change_fails i t s new h within is w changes = h ∙ split i t s within is ∙ values_fail s new t (changes_of (drop (i + 1) touches)) w changes
 
-  pub all_changed : (i : ℕ) (s : PlanState) → AreChanged i s → length touches ≤ i → values_behind (changes_of touches) first.value ≡ found s.value
-  all_changed i s h past = h ∙ at_drop_all (λ us. values_behind (changes_of us) s.value) touches i past
+  pub all_changed : (i : ℕ) (s : PlanState) → AreChanged i s → length touches ≤ i → values_after (changes_of touches) first.value ≡ found s.value
+  all_changed i s h past = h ∙ at_drop_all (λ us. values_after (changes_of us) s.value) touches i past

@@ -23,10 +23,10 @@ use Rattle.plan_step.specs.State.{PlanState}
 use Rattle.plan_step.specs.Met.{Met, found, lacks, passes, and_then, is_past, passes_128}
 use Rattle.plan_step.specs.Evaluation.{evaluated}
 use Rattle.plan_step.specs.Conditions.{leaf_met, leaves_met, first_unmet, all_met, goal_met}
-use Rattle.plan_step.specs.Effects.{Change, put, change, clashes, change_met, all_changes, more_changes, first_clash, changed, with_value, values_behind}
-use Rattle.plan_step.specs.Step.{then_next, action_with, action_for, typed_arguments, all_fit, with_values, made_by, step_from}
+use Rattle.plan_step.specs.Effects.{change_met, all_changes, more_changes, first_clash, changed, with_value, values_after}
+use Rattle.plan_step.specs.Step.{then_next, action_with, action_for, typed_arguments, with_values, made_by, step_from}
 use Rattle.plan_step.specs.Repeat.{then_again, repeated_from}
-use Rattle.plan_step.specs.Meaning.{holds, change_of, changed_by}
+use Rattle.plan_step.specs.Meaning.{Change, put, change, clashes, all_fit, holds, change_of, changed_by}
 use Rattle.plan_step.specs.Laws.{TellsWide}
 use Rattle.plan_step.proofs.Meanings.{IsPast, Agrees, passes_is}
 use Rattle.plan_step.proofs.LeafLaws.{LeafAgrees, leaf_agrees, change_agrees, changed_agrees}
@@ -128,17 +128,17 @@ then_sound (found a) next h k = k a
 then_sound lacks next h k = tt
 then_sound (passes w) next h k = h
 
-values_sound : (changes : List Change) (values : ℕ → List ℕ → Option Fraction) → SoundMet (values_behind changes values)
+values_sound : (changes : List Change) (values : ℕ → List ℕ → Option Fraction) → SoundMet (values_after changes values)
 values_sound [] values = tt
 values_sound (put sign p args ∷ changes) values = values_sound changes values
 values_sound (change op f args by ∷ changes) values =
-    then_sound (changed op (values f args) by) (λ x. values_behind changes (with_value values f args x))
+    then_sound (changed op (values f args) by) (λ x. values_after changes (with_value values f args x))
     (agrees_sound (changed op (values f args) by) (changed_by op by (values f args)) (changed_agrees op (values f args) by)) (λ x. values_sound changes (with_value values f args x))
 
-behind_sound : (changes : List Change) (state : PlanState) (m : Met (ℕ → List ℕ → Option Fraction)) → SoundMet m → Sound (with_values changes state m)
-behind_sound changes state (found values) h = tt
-behind_sound changes state lacks h = tt
-behind_sound changes state (passes w) h = passes_by w h
+after_sound : (changes : List Change) (state : PlanState) (m : Met (ℕ → List ℕ → Option Fraction)) → SoundMet m → Sound (with_values changes state m)
+after_sound changes state (found values) h = tt
+after_sound changes state lacks h = tt
+after_sound changes state (passes w) h = passes_by w h
 
 counted_sound : (a : Action) (b : Bool) → Sound {A = Action} (cond b (Ok a) (Err fail.Arity))
 counted_sound a true = tt
@@ -157,7 +157,7 @@ made_sound state a args =
     next_sound (first_unmet 0 (leaves_met state args a.conds)) _ (conditions_sound state args a.conds 0)
     (λ _. next_sound (all_changes 0 (map (change_met state args) a.effs)) _ (changes_sound state args a.effs 0)
     (λ changes. next_sound (first_clash 0 [] changes) _ (clashes_sound changes 0 [])
-    (λ _. behind_sound changes state (values_behind changes state.value) (values_sound changes state.value))))
+    (λ _. after_sound changes state (values_after changes state.value) (values_sound changes state.value))))
 
 step_sound : (task : TaskParts) (state : PlanState) (by : Instance) → Sound (step_from task state by)
 unfolding step_from

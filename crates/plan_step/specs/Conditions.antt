@@ -1,6 +1,6 @@
 -- Conditions: the list of their leaves, numbered from 0 in text order, each of which has to hold (PDDL 2.1; that a
 -- comparison without a value doesn't hold is this project's).
-use Rattle.std.specs.Prelude.{ℕ, ◌+◌, Bool, true, false, not, ◌==◌, List, [], ◌∷◌, map, Result, Ok, Err, if◌then◌else◌}
+use Rattle.std.specs.Prelude.{ℕ, ◌+◌, Bool, true, false, ◌==◌, List, [], ◌∷◌, map, Result, Ok, Err}
 use Rattle.frac128.specs.declared.operations.Wide.{Wide}
 use Rattle.pddl_task.specs.declared.condition.Cond.{Cond}
 use Rattle.pddl_task.specs.declared.condition.Cond.TheVariants as cond
@@ -8,12 +8,9 @@ use Rattle.plan_step.specs.declared.failure.StepFail.{StepFail}
 use Rattle.plan_step.specs.declared.failure.StepFail.TheVariants as fail
 use Rattle.plan_step.specs.State.{PlanState}
 use Rattle.plan_step.specs.Met.{Met, found, lacks, passes, and_then}
-use Rattle.plan_step.specs.Evaluation.{object_of, objects_of, evaluated}
+use Rattle.plan_step.specs.Meaning.{object_of, objects_of, signed}
+use Rattle.plan_step.specs.Evaluation.{evaluated}
 use Rattle.plan_step.specs.Order.{related}
-
--- with the sign of a literal
-abbrev pub signed : Bool → Bool → Bool
-signed pos holds = if pos then holds else not holds
 
 -- whether a leaf holds: a literal by the atom's truth, an equality by the objects, a comparison where both sides have
 -- values that compare so; the left side is evaluated first

@@ -1,7 +1,7 @@
 -- Effects: the list of their leaves, numbered from 0 in text order. All right sides are evaluated in the state before
 -- the step; then deleted atoms become false, then added atoms become true, and functions change (PDDL 2.1; clashes and
 -- functions without a value are this project's).
-use Rattle.std.specs.Prelude.{ℕ, ◌+◌, Bool, true, false, not, ◌&&◌, ◌||◌, ◌==◌, bytes_eq, List, [], ◌∷◌, ◌++◌, Option, Some, Result, Ok, Err, if◌then◌else◌}
+use Rattle.std.specs.Prelude.{ℕ, ◌+◌, ◌&&◌, ◌==◌, bytes_eq, List, [], ◌∷◌, ◌++◌, Option, Some, Result, Ok, Err, if◌then◌else◌}
 use Rattle.std.specs.List.{list_any}
 use Rattle.rational.specs.Fraction.{Fraction}
 use Rattle.frac128.specs.declared.operations.Op.TheVariants as op
@@ -13,12 +13,8 @@ use Rattle.plan_step.specs.declared.failure.StepFail.{StepFail}
 use Rattle.plan_step.specs.declared.failure.StepFail.TheVariants as fail
 use Rattle.plan_step.specs.State.{PlanState}
 use Rattle.plan_step.specs.Met.{Met, found, lacks, passes, and_then, operated, value_or_none}
-use Rattle.plan_step.specs.Evaluation.{objects_of, evaluated, is_zero_ℤ}
-
--- a leaf of an effect in an instance, its right side evaluated
-pub data Change : Type 0 where
-  put : Bool → ℕ → List ℕ → Change
-  change : NumOp → ℕ → List ℕ → Fraction → Change
+use Rattle.plan_step.specs.Meaning.{objects_of, is_zero_ℤ, Change, put, change, clashes}
+use Rattle.plan_step.specs.Evaluation.{evaluated}
 
 -- ---- the values that a leaf needs
 
@@ -56,38 +52,14 @@ all_changes i (found c ∷ more) = more_changes c (all_changes (i + 1) more)
 all_changes i (lacks ∷ more) = Err (fail.NoValue i)
 all_changes i (passes w ∷ more) = Err (fail.Wide w)
 
--- ---- clashes
-
-abbrev pub adds_up : NumOp → Bool
-adds_up Assign = false
-adds_up Increase = true
-adds_up Decrease = true
-adds_up ScaleUp = false
-adds_up ScaleDown = false
-
--- two leaves change one function, not both by `increase` or `decrease`
-abbrev pub clashes : Change → Change → Bool
-clashes (put pos p args) c = false
-clashes (change op f args by) (put pos p others) = false
-clashes (change op f args by) (change other g others amount) = (f == g && bytes_eq args others) && not (adds_up op && adds_up other)
-
 -- the first leaf that clashes with one in front of it, counted from this number
 abbrev pub first_clash : ℕ → List Change → List Change → Result (Unit {0}) StepFail
 first_clash i front [] = Ok tt
 first_clash i front (c ∷ more) = if list_any (clashes c) front then Err (fail.Clash i) else first_clash (i + 1) (front ++ c ∷ []) more
 
--- ---- the state behind
+-- ---- the state after
 
-abbrev pub puts : Bool → ℕ → List ℕ → Change → Bool
-puts pos p args (put sign pred others) = (if pos then sign else not sign) && (pred == p && bytes_eq others args)
-puts pos p args (change op f others by) = false
-
--- deleted atoms become false, and then added atoms true
-abbrev pub truth_behind : List Change → (ℕ → List ℕ → Bool) → ℕ → List ℕ → Bool
-truth_behind changes truth p args =
-    list_any (puts true p args) changes || (truth p args && not (list_any (puts false p args) changes))
-
--- a function's value behind a change of it
+-- a function's value after a change of it
 abbrev pub changed : NumOp → Option Fraction → Fraction → Met Fraction
 changed Assign value by = found by
 changed Increase value by = and_then (value_or_none value) (λ x. operated op.Add x by)
@@ -99,7 +71,7 @@ abbrev pub with_value : (ℕ → List ℕ → Option Fraction) → ℕ → List 
 with_value values f args x g others = if g == f && bytes_eq others args then Some x else values g others
 
 -- the changes one by one, each from its function's value so far
-abbrev pub values_behind : List Change → (ℕ → List ℕ → Option Fraction) → Met (ℕ → List ℕ → Option Fraction)
-values_behind [] values = found values
-values_behind (put pos p args ∷ more) values = values_behind more values
-values_behind (change op f args by ∷ more) values = and_then (changed op (values f args) by) (λ x. values_behind more (with_value values f args x))
+abbrev pub values_after : List Change → (ℕ → List ℕ → Option Fraction) → Met (ℕ → List ℕ → Option Fraction)
+values_after [] values = found values
+values_after (put pos p args ∷ more) values = values_after more values
+values_after (change op f args by ∷ more) values = and_then (changed op (values f args) by) (λ x. values_after more (with_value values f args x))

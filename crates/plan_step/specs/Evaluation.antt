@@ -1,25 +1,16 @@
 -- The value of an expression in a state, at the arguments of an instance: it is evaluated inside out and from the left,
 -- up to the first part that has no value (a function without one, or a division by 0) or the first operation that
 -- passes 128 bits (this project). `Meaning` has the same without the bound.
-use Rattle.std.specs.Prelude.{ℕ, Bool, false, ◌==◌, List, [], ◌∷◌, map, slice_index, ℤ, pos, if◌then◌else◌}
+use Rattle.std.specs.Prelude.{ℕ, List, [], ◌∷◌, pos, if◌then◌else◌}
 use Rattle.rational.specs.Fraction.{Fraction, whole, neg_ℚ}
 use Rattle.frac128.specs.declared.operations.Op.{Op}
 use Rattle.frac128.specs.declared.operations.Op.TheVariants as op
-use Rattle.pddl_task.specs.declared.expression.Term.{Term}
-use Rattle.pddl_task.specs.declared.expression.Term.TheVariants.{Param, Object}
 use Rattle.pddl_task.specs.declared.expression.Expr.{Expr}
 use Rattle.pddl_task.specs.declared.expression.Expr.TheOpen.{Expr-F}
 use Rattle.pddl_task.specs.declared.expression.Expr.TheFolds.{fold-Expr}
 use Rattle.plan_step.specs.State.{PlanState}
+use Rattle.plan_step.specs.Meaning.{objects_of, is_zero_ℤ}
 use Rattle.plan_step.specs.Met.{Met, found, lacks, and_then, operated, value_or_none}
-
--- the object that a term stands for, at these arguments
-abbrev pub object_of : List ℕ → Term → ℕ
-object_of args (Param p) = slice_index args p
-object_of args (Object o) = o
-
-abbrev pub objects_of : List ℕ → List Term → List ℕ
-objects_of args terms = map (object_of args) terms
 
 -- folded from the left
 abbrev pub folded_from : Op → Fraction → List (Met Fraction) → Met Fraction
@@ -36,11 +27,6 @@ empty_fold op.Div = whole (pos 1)
 abbrev pub folded : Op → List (Met Fraction) → Met Fraction
 folded op [] = found (empty_fold op)
 folded op (m ∷ more) = and_then m (λ x. folded_from op x more)
-
--- 0 is written with the numerator 0
-abbrev pub is_zero_ℤ : ℤ → Bool
-is_zero_ℤ (pos n) = n == 0
-is_zero_ℤ _ = false
 
 abbrev pub divided : Fraction → Fraction → Met Fraction
 divided x y = if is_zero_ℤ y.num then lacks else operated op.Div x y

@@ -11,9 +11,7 @@ use Rattle.pddl_task.specs.declared.parts.TaskParts.{TaskParts}
 use Rattle.plan_step.specs.declared.failure.StepFail.{StepFail}
 use Rattle.plan_step.specs.declared.failure.StepFail.TheVariants as fail
 use Rattle.plan_step.specs.State.{PlanState}
-use Rattle.plan_step.specs.Effects.{Change, clashes}
-use Rattle.plan_step.specs.Step.{fits}
-use Rattle.plan_step.specs.Meaning.{holds, all_hold, change_of, IsClean, IsInstanceOf, Run}
+use Rattle.plan_step.specs.Meaning.{Change, clashes, fits, holds, all_hold, change_of, IsClean, IsInstanceOf, Run}
 
 -- no action has the instance's number and takes so many arguments
 abbrev pub HasNoAction : TaskParts → Instance → Type 0

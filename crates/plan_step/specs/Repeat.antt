@@ -30,12 +30,3 @@ RepeatFails meant old new at e = (meant ≡ Err (repeat_fail at e)) × (new ≡ 
 abbrev pub Repeats : Result PlanState RepeatFail → PlanState → PlanState → Result (Unit {0}) RepeatFail → Type 0
 Repeats meant old new (Ok _) = meant ≡ Ok new
 Repeats meant old new (Err f) = RepeatFails meant old new f.at f.fail
-
--- the same of a repetition that has begun, whose failures leave the state as it is then
-abbrev pub AnswersFail : Result PlanState RepeatFail → ℕ → StepFail → Type 0
-AnswersFail meant at fail.Memory = Unit {0}
-AnswersFail meant at e = meant ≡ Err (repeat_fail at e)
-
-abbrev pub RepeatsOn : Result PlanState RepeatFail → PlanState → Result (Unit {0}) RepeatFail → Type 0
-RepeatsOn meant new (Ok _) = meant ≡ Ok new
-RepeatsOn meant new (Err f) = AnswersFail meant f.at f.fail

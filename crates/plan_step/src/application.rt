@@ -3,11 +3,12 @@
 ghost use Rattle.std.specs.Prelude.{◌≡◌, OnOk, Some, map};
 ghost use Rattle.plan_step.specs.State.{PlanState};
 ghost use Rattle.plan_step.specs.Met.{found, met_of_value};
-ghost use Rattle.plan_step.specs.Held.{state_of, HasFunction, KeepsPlaces};
+ghost use Rattle.plan_step.specs.Held.{state_of};
+ghost use Rattle.plan_step.specs.inside.Places.{HasFunction, KeepsPlaces};
 ghost use Rattle.plan_step.specs.Effects as effects;
-ghost use Rattle.plan_step.specs.Step.{state_behind};
-ghost use Rattle.plan_step.specs.Touches.{EachTouch, HasPlace, HasTarget, IsKept, IsUsable, DiffersIn, changes_of, target_of};
-ghost use Rattle.plan_step.specs.Application as application;
+ghost use Rattle.plan_step.specs.Step.{state_after};
+ghost use Rattle.plan_step.specs.inside.Touches.{EachTouch, HasPlace, HasTarget, IsKept, IsUsable, DiffersIn, changes_of, target_of};
+ghost use Rattle.plan_step.specs.inside.Application as application;
 
 use crate::state::State;
 use crate::touches::Touch;
@@ -99,7 +100,7 @@ fn put_truths(state: &mut State, touches: &[Touch], truth: bool)
     }
 }
 
-/// The value behind one change.
+/// The value after one change.
 fn changed(op: NumOp, value: &Option<Frac>, by: &Frac) -> Result<Frac, Wide>
     requires usable { effects.amount_met op by.now ≡ found by.now }
     requires target { effects.target_met op value.now ≡ found tt }
@@ -160,7 +161,7 @@ fn change_values(state: &mut State, touches: &[Touch]) -> Result<(), Wide>
     requires places { EachTouch (HasPlace state.old) touches.now }
     requires usable { EachTouch IsUsable touches.now }
     requires targets { EachTouch (HasTarget (state_of state.old)) touches.now }
-    ensures changes { application.ValuesChange (effects.values_behind (changes_of touches.now) (state_of state.old).value) (state_of state.old) (state_of state.new) result }
+    ensures changes { application.ValuesChange (effects.values_after (changes_of touches.now) (state_of state.old).value) (state_of state.old) (state_of state.new) result }
     ensures differs { DiffersIn (map target_of touches.now) (state_of state.old) (state_of state.new) }
     ensures keeps { KeepsPlaces state.old state.new }
 {
@@ -176,7 +177,7 @@ pub(crate) fn apply(state: &mut State, touches: &[Touch]) -> Result<(), Wide>
     requires kept { EachTouch (IsKept (state_of state.old)) touches.now }
     requires usable { EachTouch IsUsable touches.now }
     requires targets { EachTouch (HasTarget (state_of state.old)) touches.now }
-    ensures behind { application.IsBehind (state_behind (changes_of touches.now) (state_of state.old)) (state_of state.old) (state_of state.new) result }
+    ensures applied { application.IsAfter (state_after (changes_of touches.now) (state_of state.old)) (state_of state.old) (state_of state.new) result }
     ensures differs { DiffersIn (map target_of touches.now) (state_of state.old) (state_of state.new) }
     ensures keeps { KeepsPlaces state.old state.new }
 {

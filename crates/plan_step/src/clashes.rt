@@ -2,9 +2,10 @@
 ghost use Rattle.std.specs.Prelude.{◌≡◌, ◌<◌, ◌^◌, false, [], ◌∷◌, length, IfOk};
 ghost use Rattle.ground_map.specs.GroundMap.{value_at, IsPut};
 ghost use Rattle.std.specs.List.{list_any};
-ghost use Rattle.plan_step.specs.Effects.{adds_up, clashes, first_clash};
-ghost use Rattle.plan_step.specs.Sums.{clash_with, clash_told, IsAdded};
-ghost use Rattle.plan_step.specs.Touches.{Answers, change_in, changes_of};
+ghost use Rattle.plan_step.specs.Effects.{first_clash};
+ghost use Rattle.plan_step.specs.Meaning.{adds_up, clashes};
+ghost use Rattle.plan_step.specs.inside.Sums.{clash_with, clash_told, IsAdded};
+ghost use Rattle.plan_step.specs.inside.Touches.{Answers, change_in, changes_of};
 
 use crate::failure::StepFail;
 use crate::touches::Touch;

@@ -4,6 +4,7 @@ ghost use Rattle.std.specs.Prelude.{◌≡◌, ◌<◌, ◌^◌, length};
 ghost use Rattle.plan_step.specs.Met.{met_of};
 ghost use Rattle.plan_step.specs.Held.{state_of};
 ghost use Rattle.plan_step.specs.Order.{related};
+ghost use Rattle.plan_step.specs.Meaning as meaning;
 ghost use Rattle.plan_step.specs.Conditions as condition;
 
 use crate::evaluation::evaluate_both;
@@ -28,7 +29,7 @@ fn is_related(rel: Rel, x: &Frac, y: &Frac) -> bool
 }
 
 fn signed(pos: bool, holds: bool) -> bool
-    ensures { result ≡ condition.signed pos holds }
+    ensures { result ≡ meaning.signed pos holds }
 {
     if pos { holds } else { !holds }
 }

@@ -4,6 +4,7 @@ ghost use Rattle.std.specs.Prelude.{◌≡◌, ◌≢◌, Some, map};
 ghost use Rattle.rational.specs.Fraction.{neg_ℚ};
 ghost use Rattle.plan_step.specs.Met.{met_of, met_of_value, operated, found, and_then};
 ghost use Rattle.plan_step.specs.Held.{state_of};
+ghost use Rattle.plan_step.specs.Meaning.{is_zero_ℤ};
 ghost use Rattle.plan_step.specs.Evaluation as evaluation;
 
 use crate::reading::call;
@@ -12,7 +13,7 @@ use frac128::{Frac, Op, Wide};
 use pddl_task::Expr;
 
 pub(crate) fn is_zero(x: &Frac) -> bool
-    ensures { result ≡ evaluation.is_zero_ℤ x.now.num }
+    ensures { result ≡ is_zero_ℤ x.now.num }
 {
     x.num() == 0
 }

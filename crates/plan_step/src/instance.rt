@@ -2,8 +2,9 @@
 ghost use Rattle.std.specs.Prelude.{◌≡◌, true, nat_lt, length, slice_get, Ok, Err, IfSome, MatchOption, MatchResult};
 ghost use Rattle.std.specs.List.{list_all};
 ghost use Rattle.pddl_task.specs.Numbers.{counts_of, are_types};
+ghost use Rattle.plan_step.specs.Meaning as meaning;
 ghost use Rattle.plan_step.specs.Step as steps;
-ghost use Rattle.plan_step.specs.Fitting.{fitting};
+ghost use Rattle.plan_step.specs.inside.Fitting.{fitting};
 
 use crate::failure::StepFail;
 use pddl_task::{Action, Instance, Task};
@@ -12,7 +13,7 @@ use sqlite_items::Items;
 /// Whether the object is of one of the types, or of one below.
 fn fits(task: &Task, types: &[u32], object: u32) -> bool
     requires { list_all (λ t. nat_lt t (length task.now.types)) types.now ≡ true }
-    ensures { result ≡ steps.fits task.now types.now object }
+    ensures { result ≡ meaning.fits task.now types.now object }
 {
     if object >= task.objects() {
         return false;
@@ -29,7 +30,7 @@ fn fits(task: &Task, types: &[u32], object: u32) -> bool
 /// Whether each argument is of its parameter's types.
 fn all_fit(task: &Task, params: &[Items<u32>], args: &[u32]) -> bool
     requires { are_types (counts_of task.now) params.now ≡ true }
-    ensures { result ≡ steps.all_fit task.now params.now args.now }
+    ensures { result ≡ meaning.all_fit task.now params.now args.now }
 {
     for (i, types) in params.iter().enumerate() {
         let Some(object) = args.get(i) else {

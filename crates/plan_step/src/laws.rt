@@ -58,7 +58,7 @@ pub fn one_run_from_a_state()
     ensures { (task : TaskParts) (plan : List Instance) (old s t : PlanState) → Run task old plan s → Run task old plan t → s ≡ t }
 {}
 
-/// A repetition that is made is a run, with what runs behind it.
+/// A repetition that is made is a run, with what runs after it.
 #[tactic(auto, using(crate::proofs::RunLaws::made_run))]
 pub fn made_repetition_is_a_run()
     ensures { (task : TaskParts) (by : Instance) (n at : ℕ) (s t u : PlanState) (more : List Instance) → repeated_from task by at n s ≡ Ok t → Run task t more u → Run task s (replicate n by ++ more) u }

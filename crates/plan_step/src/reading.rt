@@ -2,7 +2,7 @@
 //! stack, or where they are too many for it compared one by one, so that no memory is taken.
 ghost use Rattle.std.specs.Prelude.{◌≡◌, ◌≤◌, length};
 ghost use Rattle.plan_step.specs.Held.{state_of};
-ghost use Rattle.plan_step.specs.Evaluation.{objects_of};
+ghost use Rattle.plan_step.specs.Meaning.{objects_of};
 
 use crate::state::State;
 use crate::terms::{object, write_objects};

@@ -1,10 +1,12 @@
 //! Repeating an instance. Each repetition touches the same atoms and functions, so what the first one's touches keep undoes
 //! them all.
 ghost use Rattle.std.specs.Prelude.{◌-◌, ◌<◌, IfErr};
-ghost use Rattle.plan_step.specs.Held.{state_of, KeepsPlaces};
-ghost use Rattle.plan_step.specs.Touches.{DiffersIn};
-ghost use Rattle.plan_step.specs.Fitting.{targets_of};
-ghost use Rattle.plan_step.specs.Repeat.{repeated_from, Repeats, RepeatsOn};
+ghost use Rattle.plan_step.specs.Held.{state_of};
+ghost use Rattle.plan_step.specs.inside.Places.{KeepsPlaces};
+ghost use Rattle.plan_step.specs.inside.Touches.{DiffersIn};
+ghost use Rattle.plan_step.specs.inside.Fitting.{targets_of};
+ghost use Rattle.plan_step.specs.Repeat.{repeated_from, Repeats};
+ghost use Rattle.plan_step.specs.inside.Repeating.{RepeatsOn};
 ghost use Rattle.plan_step.specs.Reasons.{BreaksBy};
 
 use crate::application::restore;
@@ -14,7 +16,7 @@ use crate::stepping::{make_step, step_on};
 use pddl_task::{Instance, Task};
 use std::alloc::Global;
 
-/// The repetitions behind the first.
+/// The repetitions after the first.
 fn repeat_on(
     alloc: Global,
     task: &Task,

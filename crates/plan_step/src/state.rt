@@ -2,8 +2,9 @@
 //! its table is false, or has no value; so a place for it can be made first, and filled without memory later.
 ghost use Rattle.std.specs.Prelude.{◌≡◌, Some, OnOk, IfOk};
 ghost use Rattle.plan_step.specs.State.{initial};
-ghost use Rattle.plan_step.specs.Start.{with_facts, with_given, with_given_values};
-ghost use Rattle.plan_step.specs.Held.{Held, state_of, HasAtom, HasFunction, KeepsPlaces, with_atom, with_function};
+ghost use Rattle.plan_step.specs.inside.Start.{with_facts, with_given, with_given_values};
+ghost use Rattle.plan_step.specs.Held.{Held, state_of};
+ghost use Rattle.plan_step.specs.inside.Places.{HasAtom, HasFunction, KeepsPlaces, with_atom, with_function};
 
 use frac128::Frac;
 use ground_map::{GroundMap, Listed};

@@ -1,10 +1,12 @@
-//! One step of an instance. Begin with `step`; `make` does what comes behind the tests of the instance.
+//! One step of an instance. Begin with `step`; `make` does what comes after the tests of the instance.
 ghost use Rattle.std.specs.Prelude.{◌<◌, ◌^◌, length, map, IfOk, IfErr, IsTrue};
-ghost use Rattle.plan_step.specs.Held.{state_of, KeepsPlaces};
+ghost use Rattle.plan_step.specs.Held.{state_of};
+ghost use Rattle.plan_step.specs.inside.Places.{KeepsPlaces};
 ghost use Rattle.plan_step.specs.Step.{made_by, step_from};
-ghost use Rattle.plan_step.specs.Fitting.{targets_of};
-ghost use Rattle.plan_step.specs.Touches.{Answers, AreTouches, changes_of, target_in, DiffersIn};
-ghost use Rattle.plan_step.specs.Making.{changes_in, Makes, WasBefore};
+ghost use Rattle.plan_step.specs.inside.Fitting.{targets_of};
+ghost use Rattle.plan_step.specs.inside.Touches.{Answers, AreTouches, changes_of, target_in, DiffersIn};
+ghost use Rattle.plan_step.specs.Making.{Makes};
+ghost use Rattle.plan_step.specs.inside.Undoing.{changes_in, WasBefore};
 ghost use Rattle.plan_step.specs.Reasons.{FailsBy};
 
 use crate::application::{apply, make_places};

@@ -1,6 +1,6 @@
 //! The objects that the terms of a call stand for, at the arguments of an instance.
 ghost use Rattle.std.specs.Prelude.{◌≡◌, ◌≤◌, length, take, IfOk};
-ghost use Rattle.plan_step.specs.Evaluation.{object_of, objects_of};
+ghost use Rattle.plan_step.specs.Meaning.{object_of, objects_of};
 
 use pddl_task::Term;
 use sqlite_items::Items;

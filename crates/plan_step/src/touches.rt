@@ -3,9 +3,10 @@
 ghost use Rattle.std.specs.Prelude.{◌≡◌, ◌<◌, ◌^◌, length, map, IfOk, IfSome, if◌then◌else◌};
 ghost use Rattle.plan_step.specs.Met.{met_of, and_then, found, lacks};
 ghost use Rattle.plan_step.specs.Held.{state_of};
-ghost use Rattle.plan_step.specs.Evaluation.{objects_of, evaluated};
-ghost use Rattle.plan_step.specs.Effects.{target_met, amount_met, change_met, all_changes, put};
-ghost use Rattle.plan_step.specs.Touches.{Answers, leaf_answer, change_in, changes_of, IsTouch, AreTouches};
+ghost use Rattle.plan_step.specs.Evaluation.{evaluated};
+ghost use Rattle.plan_step.specs.Meaning.{objects_of, put};
+ghost use Rattle.plan_step.specs.Effects.{target_met, amount_met, change_met, all_changes};
+ghost use Rattle.plan_step.specs.inside.Touches.{Answers, leaf_answer, change_in, changes_of, IsTouch, AreTouches};
 
 use crate::evaluation::{evaluate, is_zero};
 use crate::failure::StepFail;

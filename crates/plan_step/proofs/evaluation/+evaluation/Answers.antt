@@ -1,5 +1,5 @@
 use Rattle.std.proofs.Common.{◌∙◌, sym, ap, length, ◌-◌, Option, Ok, arith}
-use Rattle.plan_step.proofs.Depth.{depth_of, deepest, add_is_deeper, mul_is_deeper, neg_is_deeper, sub_is_deeper, div_is_deeper, deepest-get, deepest-behind}
+use Rattle.plan_step.proofs.Depth.{depth_of, deepest, add_is_deeper, mul_is_deeper, neg_is_deeper, sub_is_deeper, div_is_deeper, deepest-get, deepest-after}
 use Rattle.std.proofs.lemmas.Result.{err_from_is_err_and}
 use Rattle.rational.specs.Fraction.{Fraction}
 use Rattle.plan_step.specs.Met.{met_of}
@@ -46,7 +46,7 @@ evaluate-evaluate_quotient-requires t c = (omega (arith, div_is_deeper _ _ _ c.i
 pub evaluate_fold-evaluate-requires-in-loop-part : goal.evaluate_fold-evaluate-requires-in-loop-part
 evaluate_fold-evaluate-requires-in-loop-part t c =
     let parts = c.args.parts.now in
-    (omega (arith, deepest-get _ c.loop-part.part-index c.part-item.result c.loop-part-test.true c.part-item.is, deepest-behind parts (length parts - 1), c.decreases), tt)
+    (omega (arith, deepest-get _ c.loop-part.part-index c.part-item.result c.loop-part-test.true c.part-item.is, deepest-after parts (length parts - 1), c.decreases), tt)
 
 pub evaluate_fold-returns-in_err-x-2 : goal.evaluate_fold-returns-in_err-x-2
 evaluate_fold-returns-in_err-x-2 t c =

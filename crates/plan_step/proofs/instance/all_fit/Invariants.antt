@@ -1,5 +1,5 @@
 use Rattle.std.proofs.Common.{◌≡◌, drop}
-use Rattle.plan_step.specs.Step.{all_fit}
+use Rattle.plan_step.specs.Meaning.{all_fit}
 use Rattle.plan_step.proofs.instance.all_fit.Given as goal
 
 abbrev pub invariant-loop-i : goal.invariant-loop-i

@@ -1,7 +1,7 @@
 use Rattle.std.proofs.Common.{◌-◌, refl, ◌∙◌, arith}
 use Rattle.plan_step.specs.Held.{state_of}
 use Rattle.plan_step.proofs.Fitting.{same_state}
-use Rattle.plan_step.proofs.Making.{places_on, undone}
+use Rattle.plan_step.proofs.Making.{places_on, undo_all}
 use Rattle.plan_step.proofs.Repetitions.{repeated_none, repeated_more, answers_fail, repeat_fails}
 use Rattle.plan_step.proofs.repeating.repeat_all.Goals as goal
 
@@ -26,7 +26,7 @@ returns-in-Err-repeat_on c =
     let new = state_of c.restore.new.state in
     repeat_fails _ _ old new c.in-Err-repeat_on.failed.at c.in-Err-repeat_on.failed.fail
     (repeated_more c.args.task.now c.args.by.now 1 c.args.times (c.args.times - 1) old first (omega arith) c.in-Ok.ensures.made) c.in-Err-repeat_on.ensures.repeats
-    (undone _ old c.make_step.new.state c.repeat_on.new.state c.in-Ok.touches _ c.in-Ok.ensures.before c.as_slice.ensures new c.repeat_on.ensures.differs c.restore.ensures.restored)
+    (undo_all _ old c.make_step.new.state c.repeat_on.new.state c.in-Ok.touches _ c.in-Ok.ensures.before c.as_slice.ensures new c.repeat_on.ensures.differs c.restore.ensures.restored)
 
 pub returns : goal.returns
 returns c =

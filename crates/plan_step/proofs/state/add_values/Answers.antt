@@ -1,6 +1,6 @@
 use Rattle.std.proofs.Common.{ap, ◌∙◌}
 use Rattle.plan_step.specs.Held.{state_of}
-use Rattle.plan_step.specs.Start.{with_given}
+use Rattle.plan_step.specs.inside.Start.{with_given}
 use Rattle.plan_step.proofs.Starting.{values_more}
 use Rattle.plan_step.proofs.state.add_values.Goals as goal
 

@@ -1,6 +1,6 @@
 use Rattle.std.proofs.Common.{◌≡◌, take}
 use Rattle.plan_step.specs.Held.{state_of}
-use Rattle.plan_step.specs.Start.{with_given_values}
+use Rattle.plan_step.specs.inside.Start.{with_given_values}
 use Rattle.plan_step.proofs.state.add_values.Given as goal
 
 abbrev pub invariant-loop-given : goal.invariant-loop-given

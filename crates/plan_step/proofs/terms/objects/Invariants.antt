@@ -1,5 +1,5 @@
 use Rattle.std.proofs.Common.{◌≡◌, take, map}
-use Rattle.plan_step.specs.Evaluation.{object_of}
+use Rattle.plan_step.specs.Meaning.{object_of}
 use Rattle.plan_step.proofs.terms.objects.Given as goal
 
 abbrev pub invariant-loop-term : goal.invariant-loop-term

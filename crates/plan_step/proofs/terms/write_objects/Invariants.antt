@@ -1,5 +1,5 @@
 use Rattle.std.proofs.Common.{◌≡◌, length, take, map}
-use Rattle.plan_step.specs.Evaluation.{object_of}
+use Rattle.plan_step.specs.Meaning.{object_of}
 use Rattle.plan_step.proofs.terms.write_objects.Given as goal
 
 abbrev pub invariant-loop-i : goal.invariant-loop-i

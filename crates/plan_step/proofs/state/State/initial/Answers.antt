@@ -1,6 +1,6 @@
 use Rattle.std.proofs.Common.{None, false, ap, ◌∙◌, unwrap_or}
 use Rattle.plan_step.specs.Held.{state_of}
-use Rattle.plan_step.specs.Start.{with_given_values}
+use Rattle.plan_step.specs.inside.Start.{with_given_values}
 use Rattle.plan_step.proofs.Starting.{initial_is}
 use Rattle.plan_step.proofs.state.State.initial.Goals as goal
 

@@ -7,11 +7,12 @@ use Rattle.frac128.specs.declared.operations.Wide.{Wide}
 use Rattle.plan_step.specs.declared.failure.StepFail.{StepFail}
 use Rattle.plan_step.specs.declared.failure.StepFail.TheVariants as fail
 use Rattle.plan_step.specs.State.{PlanState}
-use Rattle.plan_step.specs.Held.{with_atom, with_function}
+use Rattle.plan_step.specs.inside.Places.{with_atom, with_function}
 use Rattle.plan_step.specs.declared.touches.Touch.{Touch}
 use Rattle.plan_step.specs.declared.touches.Touch.TheVariants as touch
 use Rattle.plan_step.specs.Met.{Met, found, passes}
-use Rattle.plan_step.specs.Effects.{Change, puts, changed}
+use Rattle.plan_step.specs.Effects.{changed}
+use Rattle.plan_step.specs.Meaning.{Change, puts}
 
 -- the atoms that changes put to this truth have it
 abbrev pub with_truths : Bool → List Change → PlanState → PlanState
@@ -36,9 +37,9 @@ FunctionChanges meant f args old new (Ok _) = (x : Fraction) × (meant ≡ found
 FunctionChanges meant f args old new (Err w) = (meant ≡ passes w) × (new ≡ old)
 
 abbrev pub TouchChanges : Touch → PlanState → PlanState → Result (Unit {0}) Wide → Type 0
-TouchChanges (touch.Atom sign p args old) before behind (Ok _) = behind ≡ before
-TouchChanges (touch.Atom sign p args old) before behind (Err w) = ⊥
-TouchChanges (touch.Function op f args by old) before behind r = FunctionChanges (changed op (before.value f args) by) f args before behind r
+TouchChanges (touch.Atom sign p args old) before after (Ok _) = after ≡ before
+TouchChanges (touch.Atom sign p args old) before after (Err w) = ⊥
+TouchChanges (touch.Function op f args by old) before after r = FunctionChanges (changed op (before.value f args) by) f args before after r
 
 -- all functions have the values that are meant and the atoms are as before, or an operation passes
 abbrev pub ValuesChange : Met (ℕ → List ℕ → Option Fraction) → PlanState → PlanState → Result (Unit {0}) Wide → Type 0
@@ -46,6 +47,6 @@ ValuesChange meant old new (Ok _) = (meant ≡ found new.value) × (new.truth �
 ValuesChange meant old new (Err w) = meant ≡ passes w
 
 -- the state is what is meant, or an operation passes and nothing is changed
-abbrev pub IsBehind : Result PlanState StepFail → PlanState → PlanState → Result (Unit {0}) Wide → Type 0
-IsBehind meant old new (Ok _) = meant ≡ Ok new
-IsBehind meant old new (Err w) = (meant ≡ Err (fail.Wide w)) × (new ≡ old)
+abbrev pub IsAfter : Result PlanState StepFail → PlanState → PlanState → Result (Unit {0}) Wide → Type 0
+IsAfter meant old new (Ok _) = meant ≡ Ok new
+IsAfter meant old new (Err w) = (meant ≡ Err (fail.Wide w)) × (new ≡ old)

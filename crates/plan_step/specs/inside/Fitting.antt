@@ -5,7 +5,7 @@ use Rattle.pddl_task.specs.declared.instance.Instance.{Instance}
 use Rattle.pddl_task.specs.declared.parts.TaskParts.{TaskParts}
 use Rattle.plan_step.specs.declared.failure.StepFail.{StepFail}
 use Rattle.plan_step.specs.Step.{then_next, action_for, typed_arguments}
-use Rattle.plan_step.specs.Touches.{Target, target_in}
+use Rattle.plan_step.specs.inside.Touches.{Target, target_in}
 
 -- the action of an instance, where the arguments are of its types
 abbrev pub fitting : TaskParts → Instance → Result Action StepFail

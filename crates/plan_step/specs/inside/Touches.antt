@@ -8,10 +8,11 @@ use Rattle.plan_step.specs.declared.failure.StepFail.TheVariants as fail
 use Rattle.plan_step.specs.declared.touches.Touch.{Touch}
 use Rattle.plan_step.specs.declared.touches.Touch.TheVariants as touch
 use Rattle.plan_step.specs.State.{PlanState}
-use Rattle.plan_step.specs.Held.{Held, HasAtom, HasFunction}
+use Rattle.plan_step.specs.Held.{Held}
+use Rattle.plan_step.specs.inside.Places.{HasAtom, HasFunction}
 use Rattle.plan_step.specs.Met.{Met, found, lacks, passes}
-use Rattle.plan_step.specs.Evaluation.{objects_of}
-use Rattle.plan_step.specs.Effects.{Change, put, change, target_met, amount_met}
+use Rattle.plan_step.specs.Meaning.{objects_of, Change, put, change}
+use Rattle.plan_step.specs.Effects.{target_met, amount_met}
 
 -- ---- answers
 

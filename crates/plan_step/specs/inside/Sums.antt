@@ -1,8 +1,8 @@
--- A table of changed functions, by the function with its arguments behind it: whether all its changes are sums. The clauses of
+-- A table of changed functions, by the function with its arguments after it: whether all its changes are sums. The clauses of
 -- private functions cite it.
 use Rattle.std.specs.Prelude.{◌≡◌, ℕ, Bool, false, not, ◌&&◌, List, ◌∷◌, Option, Some, None}
 use Rattle.ground_map.specs.GroundMap.{value_at, IsPut}
-use Rattle.plan_step.specs.Effects.{Change, put, change, adds_up}
+use Rattle.plan_step.specs.Meaning.{Change, put, change, adds_up}
 
 abbrev pub Table : Type 0
 Table = List (List (List ℕ × Bool))
