@@ -21,49 +21,49 @@ use Rattle.plan_text.specs.PlanText.{Names, malformed, only, part_judged, form_j
 use Rattle.plan_text.specs.inside.Extending.{Extends}
 use Rattle.plan_text.specs.inside.Pieces.{StandsFirst}
 use Rattle.plan_text.specs.inside.Steps.{IsReadAs, with_first}
-use Rattle.plan_text.proofs.Arguments.{behind}
+use Rattle.plan_text.proofs.Arguments.{tokens_after}
 use Rattle.plan_text.proofs.Noting.{with_first-noted}
 
 -- ---- the parts
 
-none_behind : (found : Option (List Part)) → found ≡ option_both ◌++◌ found (Some [])
-none_behind None = refl
-none_behind (Some parts) = ap Some (sym (append-nil parts))
+none_after : (found : Option (List Part)) → found ≡ option_both ◌++◌ found (Some [])
+none_after None = refl
+none_after (Some parts) = ap Some (sym (append-nil parts))
 
-fault_behind : (found : Option (List Part)) → None ≡ option_both ◌++◌ found None
-fault_behind None = refl
-fault_behind (Some parts) = refl
+fault_after : (found : Option (List Part)) → None ≡ option_both ◌++◌ found None
+fault_after None = refl
+fault_after (Some parts) = refl
 
-one_behind : (found : Option (List Part)) (part : Option Part) → option_both push found part ≡ option_both ◌++◌ found (option_map only part)
-one_behind None part = refl
-one_behind (Some parts) None = refl
-one_behind (Some parts) (Some part) = refl
+one_after : (found : Option (List Part)) (part : Option Part) → option_both push found part ≡ option_both ◌++◌ found (option_map only part)
+one_after None part = refl
+one_after (Some parts) None = refl
+one_after (Some parts) (Some part) = refl
 
 pub line_refused : (old new : Reading) (f : Fault) → new.found ≡ None → new.faults ≡ Some (first_with old.faults f) → Extends (bad f []) old new
 line_refused old new f none first = record {
-  grown = none ∙ fault_behind old.found;
+  grown = none ∙ fault_after old.found;
   first = first ∙ sym (noted-bad (List Part) old.faults f);
 }
 
-pub code_empty : (names : Names) (place : ℕ) (text : List ℕ) (at : ℕ) (old : Reading) → behind text at ≡ [] → Extends (code_judged names place (behind text at)) old old
+pub code_empty : (names : Names) (place : ℕ) (text : List ℕ) (at : ℕ) (old : Reading) → tokens_after text at ≡ [] → Extends (code_judged names place (tokens_after text at)) old old
 code_empty names place text at old end = subst (λ (ts : List Token). Extends (code_judged names place ts) old old) (sym end) (record {
-  grown = none_behind old.found;
+  grown = none_after old.found;
   first = sym (noted-good {A = List Part} old.faults []);
 })
 
-some_code : (names : Names) (place : ℕ) (text : List ℕ) (at : ℕ) (p : Piece) → StandsFirst text at p → code_judged names place (behind text at) ≡ form_judged names place (written (behind text at))
+some_code : (names : Names) (place : ℕ) (text : List ℕ) (at : ℕ) (p : Piece) → StandsFirst text at p → code_judged names place (tokens_after text at) ≡ form_judged names place (written (tokens_after text at))
 some_code names place text at p first =
     ap (code_judged names place) first.is ∙ sym (ap (λ (ts : List Token). form_judged names place (written ts)) first.is)
 
 pub code_read : (names : Names) (place : ℕ) (text : List ℕ) (at : ℕ) (p : Piece) (old new : Reading) (start inner : Option Fault) (part : Option Part)
-    → StandsFirst text at p → start ≡ None → IsReadAs (written (behind text at)) (part_judged names) start inner part
-    → new.found ≡ option_both push old.found part → new.faults ≡ with_first old.faults inner → Extends (code_judged names place (behind text at)) old new
+    → StandsFirst text at p → start ≡ None → IsReadAs (written (tokens_after text at)) (part_judged names) start inner part
+    → new.found ≡ option_both push old.found part → new.faults ≡ with_first old.faults inner → Extends (code_judged names place (tokens_after text at)) old new
 code_read names place text at p old new start inner part first is_start read is_found is_first =
     let j = part_judged names read.what in
-    let same : code_judged names place (behind text at) ≡ mapped only j = some_code names place text at p first ∙ ap (form_judged names place) read.is in
+    let same : code_judged names place (tokens_after text at) ≡ mapped only j = some_code names place text at p first ∙ ap (form_judged names place) read.is in
     subst (λ (k : Judged (List Part)). Extends k old new) (sym same) (record {
       grown =
-          is_found ∙ one_behind old.found part
+          is_found ∙ one_after old.found part
           ∙ ap (λ (o : Option Part). option_both ◌++◌ old.found (option_map only o)) read.read.syntax_is
           ∙ ap (option_both ◌++◌ old.found) (sym (syntax_of-mapped only j));
       first = is_first ∙ ap (with_first old.faults) (read.read.first_is ∙ ap (λ (o : Option Fault). noted o j) is_start) ∙ with_first-noted old.faults j ∙ sym (noted-mapped old.faults only j);
@@ -112,7 +112,7 @@ line_foreign names bytes at end n code b is_n code_is is so =
 
 pub line_fine : (names : Names) (bytes : List ℕ) (at end n : ℕ) (code front : List ℕ) (b : Bool) → n ≡ prefix_len is_white (slice_range bytes at end) → code ≡ take_while is_code (slice_range bytes at end)
     → drop at front ≡ take_while is_code (slice_range bytes at end) → b ≡ list_any is_foreign code → b ≡ false
-    → line_judged names (line_at at (slice_range bytes at end)) ≡ code_judged names (at + n) (behind front at)
+    → line_judged names (line_at at (slice_range bytes at end)) ≡ code_judged names (at + n) (tokens_after front at)
 unfolding line_judged
 line_fine names bytes at end n code front b is_n code_is is_front is so =
     let line = slice_range bytes at end in

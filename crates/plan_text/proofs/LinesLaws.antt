@@ -39,16 +39,16 @@ lines_last at (b ∷ bytes) whole = elim (cases_Bool (b == 10)) [
       lines_by at b bytes false other ∙ ap (longer at b) (lines_last (at + 1) bytes (omega (arith, whole, step)))
 ]
 
--- a line with another behind it
+-- a line with another after it
 pub lines_more : (at : ℕ) (bytes : List ℕ) → first_len bytes < length bytes
     → lines_from at bytes ≡ line_at at (take (first_len bytes) bytes) ∷ lines_from (at + first_len bytes + 1) (drop (first_len bytes + 1) bytes)
 lines_more at [] within = absurd (omega (arith, within))
 lines_more at (b ∷ bytes) within =
-    let behind : ℕ → List Line = λ n. line_at at (take n (b ∷ bytes)) ∷ lines_from (at + n + 1) (drop (n + 1) (b ∷ bytes)) in
+    let lines_at : ℕ → List Line = λ n. line_at at (take n (b ∷ bytes)) ∷ lines_from (at + n + 1) (drop (n + 1) (b ∷ bytes)) in
     elim (cases_Bool (b == 10)) [
       | inl feed ↦
           let place : at + 1 ≡ at + 0 + 1 = omega arith in
-          lines_by at b bytes true feed ∙ ap (λ (p : ℕ). line_at at [] ∷ lines_from p bytes) place ∙ sym (ap behind (first_none b bytes feed))
+          lines_by at b bytes true feed ∙ ap (λ (p : ℕ). line_at at [] ∷ lines_from p bytes) place ∙ sym (ap lines_at (first_none b bytes feed))
       | inr other ↦
           let n = first_len bytes in
           let step = first_step b bytes other in
@@ -58,7 +58,7 @@ lines_more at (b ∷ bytes) within =
           ∙ ap (longer at b) (lines_more (at + 1) bytes (omega (arith, within, step)))
           ∙ ap (λ (p : ℕ). line_at at (b ∷ take n bytes) ∷ lines_from p (drop (n + 1) bytes)) place
           ∙ ap (λ (m : ℕ). line_at at (b ∷ take n bytes) ∷ lines_from (at + suc n + 1) (drop m (b ∷ bytes))) next
-          ∙ sym (ap behind step)
+          ∙ sym (ap lines_at step)
     ]
 
 -- the lines in front of a place where a line begins

@@ -1,4 +1,4 @@
--- The first word or parenthesis of a text behind a place.
+-- The first word or parenthesis of a text after a place.
 use Rattle.std.proofs.Common.{◌≡◌, inl, inr, ℕ, suc, ◌+◌, ◌-◌, ◌<◌, ◌≤◌, Bool, true, false, cond, List, [], ◌∷◌, length, get_or, drop, take, refl, sym, ◌∙◌, ap, arith, length-drop}
 use Rattle.std.proofs.lemmas.Bool.{cases_Bool}
 use Rattle.std.proofs.lemmas.List.{drop-drop, drop_all, get_or-drop, take_rest}
@@ -45,7 +45,7 @@ gap_tokens at (b ∷ bytes) =
 -- between two places there is a gap, which goes on no further
 pub record IsPassed (text : List ℕ) (from start : ℕ) : Type 0 where
   pub within : start ≤ length text
-  pub behind : from ≤ start
+  pub not_before : from ≤ start
   pub same : tokens from (drop from text) ≡ tokens start (drop start text)
   pub stops : start < length text → is_gap (get_or text start 0) ≡ false
 
@@ -57,7 +57,7 @@ gap_passed text from n within is =
     let len = length-drop from text in
     record {
       within = omega (arith, n_is, most, len);
-      behind = omega arith;
+      not_before = omega arith;
       same = gap_tokens from rest ∙ sym (ap (λ (m : ℕ). tokens (from + m) (drop m rest)) n_is) ∙ ap (λ (l : List ℕ). tokens (from + n) l) (drop-drop n from text);
       stops = λ more.
           ap is_gap (sym (get_or-drop from text n 0)) ∙ ap (λ (m : ℕ). is_gap (get_or rest m 0)) n_is
@@ -70,7 +70,7 @@ gap_to_end text from start passed end = passed.same ∙ ap (λ (l : List ℕ). t
 pub open_first : (text : List ℕ) (from start : ℕ) → IsPassed text from start → start < length text → class_of (get_or text start 0) ≡ Opens
     → StandsFirst text from (record { kind = kind.Open; start = start; end = start + 1 })
 open_first text from start passed within is = record {
-  behind = passed.behind;
+  not_before = passed.not_before;
   some = omega arith;
   within = omega (arith, within);
   is = passed.same ∙ at_place text start Opens within is;
@@ -79,7 +79,7 @@ open_first text from start passed within is = record {
 pub close_first : (text : List ℕ) (from start : ℕ) → IsPassed text from start → start < length text → class_of (get_or text start 0) ≡ Closes
     → StandsFirst text from (record { kind = kind.Close; start = start; end = start + 1 })
 close_first text from start passed within is = record {
-  behind = passed.behind;
+  not_before = passed.not_before;
   some = omega arith;
   within = omega (arith, within);
   is = passed.same ∙ at_place text start Closes within is;
@@ -115,7 +115,7 @@ has_word text from start n k passed within k_is no_open no_close n_is =
 
 pub word_first : (text : List ℕ) (from start n : ℕ) → IsPassed text from start → HasWord text start n → StandsFirst text from (record { kind = kind.Word; start = start; end = start + n })
 word_first text from start n passed word = record {
-  behind = passed.behind;
+  not_before = passed.not_before;
   some = omega (arith, word.some);
   within = word.room;
   is = passed.same ∙ word.is;

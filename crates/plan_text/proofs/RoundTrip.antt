@@ -44,7 +44,7 @@ numbered_good names k place name named = ap (found_at place) named.number
 
 -- ---- arguments
 
--- what stands behind the name of an action
+-- what stands after the name of an action
 abbrev ending : TaskParts → List ℕ → List ℕ
 ending task args = arguments_text task args ++ 41 ∷ []
 
@@ -123,20 +123,20 @@ part_read task spelled part at numbers count =
     let text = decimal_count part.count count.0 count.1 in
     let name = action_name task part.by.action in
     let named = is_named names.actions part.by.action name spelled.actions spelled.one_action (name_at (λ a. a.name) task.actions part.by.action (ltb-true part.by.action (length task.actions) parts.0)) in
-    let behind : ℕ = at + length digits in
-    let start : ℕ = behind + 1 + 1 in
+    let digits_end : ℕ = at + length digits in
+    let start : ℕ = digits_end + 1 + 1 in
     let end : ℕ = start + length name in
     let args = arguments_read task spelled part.by.args end parts.1 in
     let rest : List Token = Word start end name ∷ tokens end (ending task part.by.args) in
     let spot = spot_at start name in
     let call : Call = record { name = spot; args = args.spots } in
     record {
-      first = Word at behind digits;
-      more = Open (behind + 1) ∷ rest;
+      first = Word at digits_end digits;
+      more = Open (digits_end + 1) ∷ rest;
       what = record { count = Some (spot_at at digits); call = call };
       there =
           word_then at digits (32 ∷ 40 ∷ (name ++ ending task part.by.args)) text.word refl
-          ∙ ap (λ (ts : List Token). Word at behind digits ∷ Open (behind + 1) ∷ ts) (word_then start name (ending task part.by.args) named.word (no_word task part.by.args));
+          ∙ ap (λ (ts : List Token). Word at digits_end digits ∷ Open (digits_end + 1) ∷ ts) (word_then start name (ending task part.by.args) named.word (no_word task part.by.args));
       is =
           ap (λ (b : Bool). if b then counted (Some (spot_at at digits)) (call_with (closed_names rest)) else None) text.count
           ∙ ap (λ (b : Bool). counted (Some (spot_at at digits)) (call_with (if b then with_name spot (closed_names (tokens end (ending task part.by.args))) else None))) named.begins
@@ -158,8 +158,8 @@ word_plain (b ∷ word) all =
     let parts = and_parts (is_low b) (list_all is_low word) all in
     ap (λ (t : Bool). t && list_all is_plain word) (low_plain b parts.0) ∙ word_plain word parts.1
 
-behind_plain : (word rest : List ℕ) → IsWord word → list_all is_plain rest ≡ true → list_all is_plain (word ++ rest) ≡ true
-behind_plain word rest is all = list_all-append is_plain word rest ∙ ap (λ (t : Bool). t && list_all is_plain rest) (word_plain word is.1) ∙ all
+after_plain : (word rest : List ℕ) → IsWord word → list_all is_plain rest ≡ true → list_all is_plain (word ++ rest) ≡ true
+after_plain word rest is all = list_all-append is_plain word rest ∙ ap (λ (t : Bool). t && list_all is_plain rest) (word_plain word is.1) ∙ all
 
 ending_plain : (task : TaskParts) → AreSpelled (names_of task) → (args : List ℕ) → list_all (λ o. nat_lt o (length task.objects)) args ≡ true → list_all is_plain (ending task args) ≡ true
 ending_plain task spelled [] all = refl
@@ -167,7 +167,7 @@ ending_plain task spelled (o ∷ args) all =
     let parts = and_parts (nat_lt o (length task.objects)) (list_all (λ p. nat_lt p (length task.objects)) args) all in
     let name = object_name task o in
     let named = is_named (names_of task).objects o name spelled.objects spelled.one_object (name_at (λ x. x.name) task.objects o (ltb-true o (length task.objects) parts.0)) in
-    ap (list_all is_plain) (ending_more task o args) ∙ behind_plain name (ending task args) named.word (ending_plain task spelled args parts.1)
+    ap (list_all is_plain) (ending_more task o args) ∙ after_plain name (ending task args) named.word (ending_plain task spelled args parts.1)
 
 code_plain : (task : TaskParts) → AreSpelled (names_of task) → (part : Part) → is_part_of task part ≡ true → HasTextCount part → list_all is_plain (part_code task part) ≡ true
 code_plain task spelled part numbers count =
@@ -175,8 +175,8 @@ code_plain task spelled part numbers count =
     let text = decimal_count part.count count.0 count.1 in
     let name = action_name task part.by.action in
     let named = is_named (names_of task).actions part.by.action name spelled.actions spelled.one_action (name_at (λ a. a.name) task.actions part.by.action (ltb-true part.by.action (length task.actions) parts.0)) in
-    behind_plain (decimal part.count) (32 ∷ 40 ∷ (name ++ ending task part.by.args)) text.word
-    (behind_plain name (ending task part.by.args) named.word (ending_plain task spelled part.by.args parts.1))
+    after_plain (decimal part.count) (32 ∷ 40 ∷ (name ++ ending task part.by.args)) text.word
+    (after_plain name (ending task part.by.args) named.word (ending_plain task spelled part.by.args parts.1))
 
 line_read : (task : TaskParts) → AreSpelled (names_of task) → (part : Part) (at : ℕ) → is_part_of task part ≡ true → HasTextCount part → line_judged (names_of task) (line_at at (part_code task part)) ≡ good (part ∷ [])
 unfolding line_judged

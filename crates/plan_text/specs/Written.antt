@@ -50,13 +50,13 @@ call_of (Word start end text ∷ more) = None
 abbrev pub counted : Option Spot → Option Call → Option Written
 counted count call = option_map (λ c. record { count = count; call = c }) call
 
--- a part behind a word that is its count
-abbrev pub behind_word : ℕ → List ℕ → List Token → Option Written
-behind_word start text more = if is_count text then counted (Some (spot_at start text)) (call_of more) else None
+-- a part after a word that is its count
+abbrev pub after_count : ℕ → List ℕ → List Token → Option Written
+after_count start text more = if is_count text then counted (Some (spot_at start text)) (call_of more) else None
 
 -- the part that is written by the words and parentheses of a line, where they are of one of the two forms
 abbrev pub written : List Token → Option Written
 written [] = None
 written (Open at ∷ more) = counted None (call_of (Open at ∷ more))
 written (Close end ∷ more) = None
-written (Word start end text ∷ more) = behind_word start text more
+written (Word start end text ∷ more) = after_count start text more

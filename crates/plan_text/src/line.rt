@@ -119,12 +119,12 @@ impl Reading {
     {
         let line = &bytes[at..end];
         let place = (at + white_len(line)) as u32;
-        let behind = at + code_len(line);
-        if has_foreign(&bytes[at..behind]) {
+        let code_end = at + code_len(line);
+        if has_foreign(&bytes[at..code_end]) {
             self.refuse_line(alloc, place);
             return Ok(());
         }
-        self.read_code(alloc, tables, &bytes[..behind], at, place)?;
+        self.read_code(alloc, tables, &bytes[..code_end], at, place)?;
         Ok(())
     }
 }

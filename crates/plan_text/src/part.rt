@@ -7,7 +7,7 @@ ghost use Rattle.sexpr.specs.Bytes.{word_of};
 ghost use Rattle.sexpr.specs.Tokens.{tokens};
 ghost use Rattle.pddl_form.specs.Gather.{option_both};
 ghost use Rattle.pddl_form.specs.Reading.{IsRead};
-ghost use Rattle.plan_text.specs.Written.{spot_at, is_count, closed_names, call_with, counted, behind_word, written};
+ghost use Rattle.plan_text.specs.Written.{spot_at, is_count, closed_names, call_with, counted, after_count, written};
 ghost use Rattle.plan_text.specs.PlanText.{count_judged, numbered, instance_with, call_judged, part_with, part_judged};
 ghost use Rattle.plan_text.specs.inside.Pieces.{StandsFirst};
 ghost use Rattle.plan_text.specs.inside.Steps.{ReadsAs, name_or_none, arguments_judged};
@@ -129,7 +129,7 @@ fn make_instance(action: Option<u32>, args: Option<Items<u32>>) -> Option<Instan
     }
 }
 
-/// An action with its arguments, behind the `(`.
+/// An action with its arguments, after the `(`.
 fn read_call(
     alloc: Global,
     tables: &NameTables,
@@ -186,7 +186,7 @@ fn read_uncounted(
     Ok(Some(make_part(Some(1), by)))
 }
 
-/// A part behind its count.
+/// A part after its count.
 fn read_counted(
     alloc: Global,
     tables: &NameTables,
@@ -197,7 +197,7 @@ fn read_counted(
     requires small { length text.now ≤ 67108864 }
     requires within { word.end ≤ length text.now }
     requires there { word.start ≤ length text.now }
-    ensures { IfOk result (ReadsAs (behind_word word.start (word_of (drop word.start text.now)) (tokens word.end (drop word.end text.now))) (part_judged (names_in tables.now)) faults.old faults.new) }
+    ensures { IfOk result (ReadsAs (after_count word.start (word_of (drop word.start text.now)) (tokens word.end (drop word.end text.now))) (part_judged (names_in tables.now)) faults.old faults.new) }
 {
     let digits = first_word(alloc, &text[word.start..])?;
     if !is_count(digits.as_str()) {

@@ -1,4 +1,4 @@
-//! The words and parentheses of a text, one behind another. Begin with `find_piece`, which passes over all other bytes:
+//! The words and parentheses of a text, one after another. Begin with `find_piece`, which passes over all other bytes:
 //! whoever has comments or foreign bytes looks for them first.
 ghost use Rattle.std.specs.Prelude.{◌≡◌, ◌≤◌, [], length, drop, MatchOption};
 ghost use Rattle.std.specs.List.{prefix_len};
@@ -37,7 +37,7 @@ fn gap_len(bytes: &[u8]) -> usize
         .count()
 }
 
-/// The first word or parenthesis that begins at a place or behind it.
+/// The first word or parenthesis that begins at a place or after it.
 pub(crate) fn find_piece(text: &[u8], from: usize) -> Option<Piece>
     requires small { length text.now ≤ 67108864 }
     requires within { from ≤ length text.now }

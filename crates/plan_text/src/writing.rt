@@ -12,7 +12,7 @@ use itoa::Buffer;
 use pddl_task::Task;
 use std::alloc::AllocError;
 
-/// The count, and the parenthesis behind it.
+/// The count, and the parenthesis after it.
 fn put_count(count: u128, into: &mut Vec<u8>) -> Result<(), AllocError>
     ensures { OnOk result (into.new.items ≡ into.old.items ++ (decimal count ++ codes " (")) }
 {

@@ -4,6 +4,6 @@ use Rattle.std.specs.List.{flat_map}
 use Rattle.pddl_task.specs.declared.parts.TaskParts.{TaskParts}
 use Rattle.plan_text.specs.Printed.{object_name}
 
--- each behind a space
+-- each after a space
 abbrev pub arguments_text : TaskParts → List ℕ → List ℕ
 arguments_text task args = flat_map (λ o. codes " " ++ object_name task o) args

@@ -28,9 +28,9 @@ token_by Word text start end = sexpr.Word start end (word_of (drop start text))
 abbrev pub token_of : List ℕ → Piece → sexpr.Token
 token_of text p = token_by p.kind text p.start p.end
 
--- the first word or parenthesis at or behind a place
+-- the first word or parenthesis at or after a place
 pub record StandsFirst (text : List ℕ) (from : ℕ) (p : Piece) : Type 0 where
-  pub behind : from ≤ p.start
+  pub not_before : from ≤ p.start
   pub some : p.start < p.end
   pub within : p.end ≤ length text
   pub is : sexpr.tokens from (drop from text) ≡ token_of text p ∷ sexpr.tokens p.end (drop p.end text)
