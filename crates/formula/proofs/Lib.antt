@@ -3,3 +3,7 @@ pub mod Readings
 pub mod MeetingSteps
 pub mod Holding
 pub mod Splits
+pub mod Truths
+pub mod FarkasSteps
+pub mod FarkasAnswers
+pub mod Refuting

@@ -1,7 +1,8 @@
 -- When a point meets a formula, and what testing it answers. A point gives each numeric variable a value and each Boolean a truth.
-use Rattle.std.specs.Prelude.{◌≡◌, ◌<◌, ◌≤◌, ◌⊎◌, ◌↔◌, ℕ, Bool, true, false, not, List, length, slice_index_or, Result, Ok, Err, IsTrue, if◌then◌else◌}
+use Rattle.std.specs.Prelude.{◌≡◌, ◌<◌, ◌≤◌, ◌⊎◌, ◌↔◌, ℕ, Bool, true, false, not, List, length, slice_index_or, slice_get, Some, Any, Result, Ok, Err, IsTrue, if◌then◌else◌}
 use Rattle.std.specs.List.{list_any, list_all}
 use Rattle.rational.specs.Fraction.{Fraction}
+use Rattle.rational.specs.Floor.{IsWhole}
 use Rattle.frac128.specs.declared.operations.Wide.{Wide}
 use Rattle.lin.specs.Linear.{point_of}
 use Rattle.lin.specs.Operations.{AllFit, IsFirstPassing}
@@ -28,6 +29,10 @@ is_true truth l = if l.pos then truth_at truth l.boolean else not (truth_at trut
 abbrev pub are_met : List Bool → List (List Lit) → Bool
 are_met truth clauses = list_all (λ c. list_any (is_true truth) c) clauses
 
+-- the clause has a true literal
+abbrev pub HasTrue : List Bool → List Lit → Type 0
+HasTrue truth c = Any (λ l. is_true truth l ≡ true) c
+
 -- ---- atoms
 -- what the Boolean says by its truth
 abbrev pub constraint_at : Contents → Point → ℕ → Constraint
@@ -44,6 +49,16 @@ pub record FitsAt (f : Contents) (p : Point) (b : ℕ) : Type 0 where
 pub record Meets (f : Contents) (p : Point) : Type 0 where
   pub clauses : are_met p.truth f.clauses ≡ true
   pub atoms : (b : ℕ) → b < length f.atoms → HoldsAt f p b
+
+-- ---- whole counts
+abbrev pub AreWhole : List Bool → List Fraction → Type 0
+AreWhole counts values = (v : ℕ) → slice_get counts v ≡ Some true → IsWhole (point_of values v)
+
+-- a point of the formula, with whole counts, that meets it
+pub record IsSolution (f : Contents) (p : Point) : Type 0 where
+  pub point : IsPointOf f p
+  pub integral : AreWhole f.counts p.values
+  pub meets : Meets f p
 
 -- ---- what the test answers: the clauses in order, and then the atoms in rising Boolean
 -- each clause is met, and the Booleans below b hold

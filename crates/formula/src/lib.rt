@@ -4,7 +4,9 @@
 
 mod atom;
 mod clause;
+mod farkas;
 mod formula;
+pub mod laws;
 mod meeting;
 mod point;
 mod reading;
