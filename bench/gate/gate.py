@@ -48,13 +48,22 @@ def words_of(number):
         return []
 
 
-def work_of(words):
-    """The crate that a command of the prover checks, and for what: its proof, its tests, or a wrong body by its number."""
+def folder_of(number):
+    try:
+        return os.readlink(f"/proc/{number}/cwd")
+    except OSError:
+        return ""
+
+
+def work_of(number):
+    """The crate that a process of the prover checks, and for what: its proof, its tests, or a wrong body by its number."""
+    words = words_of(number)
     if len(words) < 2 or os.path.basename(words[0]) != "rattle" or "--crate-name" not in words:
         return None
     crate = words[words.index("--crate-name") + 1]
     kept = words[words.index("--incremental") + 1] if "--incremental" in words else ""
-    if "rt-edits-" in kept:
+    # (what is tried from nothing has no number)
+    if "rt-edit" in kept or "rt-edit" in folder_of(number):
         return crate, "edit", os.path.basename(kept)
     return crate, "tests" if "--test" in words else "proof", ""
 
@@ -73,7 +82,7 @@ class Watch:
             key = number, start
             # (a process may become the prover's after it was first seen)
             if not self.works.get(key):
-                self.works[key] = work_of(words_of(number)) if self.is_below(number, every) else None
+                self.works[key] = work_of(number) if self.is_below(number, every) else None
             above = every.get(parent)
             # a worker's time is its parent's once it has ended
             if self.works[key] and not (above and self.works.get((parent, above[2]))):
