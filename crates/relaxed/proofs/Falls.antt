@@ -1,8 +1,8 @@
 -- Layers end: the next layer is the same, or its measure is smaller.
 use Rattle.std.proofs.Common.{◌≡◌, ℕ, suc, ◌+◌, ◌<◌, ◌≤◌, Bool, true, false, cond, not, List, [], ◌∷◌, length, refl, ap, ◌∙◌, Option, Some, None, ◌⊎◌, inl, inr, arith}
 use Rattle.std.specs.List.{AllByRecursion}
-use Rattle.rational.specs.Fraction.{Fraction, ◌≤ℚ◌, ◌<ℚ◌}
-use Rattle.rational.proofs.OrderLaws.{≤ℚ_refl, <ℚ-not-≥, <ℚ_trans, ≤ℚ_antisym}
+use Rattle.rational.specs.Fraction.{Fraction, ◌≤ℚ◌}
+use Rattle.rational.proofs.OrderLaws.{≤ℚ_refl, <ℚ_trans, ≤ℚ_antisym}
 use Rattle.rational.specs.Linear.{coefficient_of}
 use Rattle.task_core.specs.declared.action.GAction.{GAction}
 use Rattle.task_core.specs.Step.{set_of, is_empty}
@@ -14,9 +14,9 @@ use Rattle.relaxed.specs.declared.interval.Interval.{Interval}
 use Rattle.relaxed.specs.declared.range.Side.TheVariants.{Least, Greatest}
 use Rattle.relaxed.specs.Interval.{is_at_most, lower, higher, between, hull, point}
 use Rattle.relaxed.specs.Range.{is_positive, range_end}
-use Rattle.relaxed.specs.Layers.{Layer, is_supported, stretched_low, stretched_high, reached_by_range, reached_by_amount, reached_by, reached, widened, layer}
+use Rattle.relaxed.specs.Layers.{Layer, is_supported, stretched_low, stretched_high, reached_by_range, reached_by_amount, reached_by, reached, widened}
 use Rattle.relaxed.proofs.Measure.{bit, count, left_low, left_high, left}
-use Rattle.relaxed.proofs.Tests.{at_most-true, true-at_most, at_most-above}
+use Rattle.relaxed.proofs.Tests.{at_most-true, true-at_most, at_most-above, above-not}
 
 abbrev pub Among : Fraction → List Fraction → Type 0
 Among x [] = ⊥
@@ -53,13 +53,6 @@ count-below P Q h y f t (x ∷ xs) (inr a) = by_tests (P x) refl (Q x) refl (cou
 not_true : (b : Bool) → not b ≡ true → b ≡ false
 not_true true h = absurd (cc)
 not_true false h = refl
-
-above-not : (x y : Fraction) → y <ℚ x → is_at_most x y ≡ false
-above-not x y h = by_test (is_at_most x y) refl
-  where
-    by_test : (b : Bool) → is_at_most x y ≡ b → b ≡ false
-    by_test true e = absurd (<ℚ-not-≥ y x h (at_most-true x y e))
-    by_test false e = refl
 
 module _ (ks : List Fraction) where
   abbrev pub KnownEnd : End → Type 0

@@ -1,8 +1,7 @@
 -- The first layer that supports an action: what any layer supports, each later one does, and after the end nothing is new.
-use Rattle.std.proofs.Common.{◌≡◌, ℕ, zero, suc, ◌+◌, ◌-◌, ◌<◌, ◌≤◌, Bool, true, false, not, ◌&&◌, ◌||◌, refl, ap, sym, subst, ◌∙◌, ◌⊎◌, inl, inr, Option, Some, None, arith}
-use Rattle.std.proofs.lemmas.Bool.{cases_lt, or_left, or_right, and_parts}
+use Rattle.std.proofs.Common.{◌≡◌, ℕ, zero, suc, ◌+◌, ◌-◌, ◌<◌, ◌≤◌, Bool, true, false, ◌||◌, refl, ap, sym, subst, ◌∙◌, ◌⊎◌, inl, inr, arith}
+use Rattle.std.proofs.lemmas.Bool.{cases_lt}
 use Rattle.task_core.specs.declared.action.GAction.{GAction}
-use Rattle.task_core.specs.Step.{after}
 use Rattle.task_core.specs.Task.{GroundParts}
 use Rattle.relaxed.specs.Layers.{Layer, is_supported, next_layer, layer, EndsAt}
 use Rattle.relaxed.specs.Supported.{is_seen}

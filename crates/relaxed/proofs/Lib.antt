@@ -1,6 +1,16 @@
 pub mod Tests
+pub mod Dropping
 pub mod ReadLaws
 pub mod Ranges
+pub mod RangeSteps
+pub mod ComparisonSteps
+pub mod PartSteps
+pub mod WidenSteps
+pub mod Distinct
+pub mod NextSteps
+pub mod TestSteps
+pub mod LayerSteps
+pub mod RunSteps
 pub mod Hulls
 pub mod Supported
 pub mod Widened

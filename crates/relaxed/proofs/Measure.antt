@@ -1,13 +1,13 @@
 -- What is left to change in a layer: atoms that may not be so yet, ends that are finite, and constants of the task beyond
 use Rattle.task_core.specs.declared.action.GAction.{GAction}
 use Rattle.task_core.specs.Step.{set_of}
-use Rattle.task_core.specs.Task.{GroundParts, start, numbers}
+use Rattle.task_core.specs.Task.{GroundParts, start}
 use Rattle.lin.specs.Linear.{Linear}
 use Rattle.relaxed.specs.declared.interval.End.{End}
 use Rattle.relaxed.specs.declared.interval.End.TheVariants.{At, Infinite}
 use Rattle.relaxed.specs.declared.interval.Interval.{Interval}
 use Rattle.relaxed.specs.Interval.{is_at_most}
-use Rattle.relaxed.specs.Layers.{Layer, layer}
+use Rattle.relaxed.specs.Layers.{Layer}
 -- them.
 use Rattle.std.proofs.Common.{◌≡◌, ℕ, zero, suc, ◌+◌, ◌*◌, ◌<◌, Bool, cond, not, List, [], ◌∷◌, length, Option, Some, None}
 use Rattle.rational.specs.Fraction.{Fraction}

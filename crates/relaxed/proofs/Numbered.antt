@@ -1,10 +1,10 @@
 -- An action of a task changes nothing beyond the task's numbers.
-use Rattle.std.proofs.Common.{◌≡◌, ℕ, suc, ◌<◌, ◌≤◌, Bool, true, false, cond, ◌||◌, List, [], ◌∷◌, length, refl, ap, ◌∙◌, Option, None, Some, nat_eq, nat_lt, arith}
+use Rattle.std.proofs.Common.{◌≡◌, ℕ, suc, ◌<◌, ◌≤◌, Bool, true, false, cond, ◌||◌, List, [], ◌∷◌, length, refl, ap, ◌∙◌, None, Some, nat_eq, nat_lt, arith}
 use Rattle.std.specs.List.{All, AllByRecursion, list_all}
 use Rattle.std.proofs.lemmas.Bool.{and_parts, lt-ltb, ltb-true, ne_eqb}
 use lib.IntN.{pos}
 use Rattle.algebra.proofs.Solve.{v, k, ◌⊕◌, solve_from, eq, done}
-use Rattle.rational.specs.Fraction.{Fraction, whole, ◌+ℚ◌}
+use Rattle.rational.specs.Fraction.{whole, ◌+ℚ◌}
 use Rattle.rational.specs.Linear.{Terms, coefficient_of}
 use Rattle.rational.proofs.FieldLaws.{fraction-ring}
 use Rattle.task_core.specs.declared.action.GAction.{GAction}

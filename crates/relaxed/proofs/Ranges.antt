@@ -14,9 +14,8 @@ use Rattle.relaxed.specs.declared.interval.End.TheVariants.{At, Infinite}
 use Rattle.relaxed.specs.declared.interval.Interval.{Interval}
 use Rattle.relaxed.specs.declared.range.Side.{Side}
 use Rattle.relaxed.specs.declared.range.Side.TheVariants.{Least, Greatest}
-use Rattle.relaxed.specs.Interval.{IsAbove, IsBelow, Within, point}
+use Rattle.relaxed.specs.Interval.{IsAbove, IsBelow, Within}
 use Rattle.relaxed.specs.Range.{is_positive, end_for, with_pick, picks, sum_from, end_of_picks, range_end}
-use Rattle.relaxed.specs.Layers.{box}
 use Rattle.relaxed.proofs.Tests.{positive-true, positive-false}
 
 -- the side of a bound, for both ranges

@@ -1,5 +1,5 @@
 -- The value of a function after a step lies in its old interval or in what the action adds.
-use Rattle.std.proofs.Common.{◌≡◌, ℕ, Bool, true, false, cond, ◌||◌, List, [], ◌∷◌, refl, sym, ap, subst, ◌∙◌, Option, Some, None, nat_eq, ◌⊎◌, inl, inr}
+use Rattle.std.proofs.Common.{◌≡◌, ℕ, Bool, true, false, cond, ◌||◌, List, [], ◌∷◌, refl, sym, subst, Option, Some, None, nat_eq, ◌⊎◌, inl, inr}
 use lib.IntN.{pos}
 use Rattle.algebra.proofs.Solve.{v, k, ◌⊕◌, solve, solve_from, bound_from, le, lt, eq, done}
 use Rattle.rational.specs.Fraction.{Fraction, whole, ◌+ℚ◌}

@@ -6,7 +6,7 @@ use Rattle.std.proofs.lemmas.List.Folds.{list_any_at}
 use Rattle.rational.proofs.OrderLaws.{≤ℚ_refl}
 use Rattle.task_core.specs.declared.action.GAction.{GAction}
 use Rattle.task_core.specs.State.{State}
-use Rattle.task_core.specs.Step.{Holds, is_in, after, keeps}
+use Rattle.task_core.specs.Step.{Holds, is_in, after}
 use Rattle.task_core.specs.Task.{GroundParts, start, idle, action_at, has_value, IsActionOf}
 use Rattle.task_core.specs.Plan.{Run}
 use Rattle.relaxed.specs.Interval.{MayBe, point}

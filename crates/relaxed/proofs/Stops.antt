@@ -7,7 +7,7 @@ use lib.IntN.{pos}
 use Rattle.rational.specs.Fraction.{whole}
 use Rattle.task_core.specs.declared.action.GAction.{GAction}
 use Rattle.task_core.specs.Step.{is_in, set_of}
-use Rattle.task_core.specs.Task.{GroundParts, numbers, IsGroundTask}
+use Rattle.task_core.specs.Task.{GroundParts, IsGroundTask}
 use Rattle.relaxed.specs.declared.interval.Interval.{Interval}
 use Rattle.relaxed.specs.Interval.{hull}
 use Rattle.relaxed.specs.Layers.{Layer, is_supported, reached_by, reached, widened, next_layer, layer, EndsAt}
@@ -23,17 +23,17 @@ or-false : (b : Bool) → (b || false) ≡ b
 or-false true = refl
 or-false false = refl
 
-hull-none : (i : Option Interval) → hull i None ≡ i
+pub hull-none : (i : Option Interval) → hull i None ≡ i
 hull-none None = refl
 hull-none (Some i) = refl
 
 module _ (task : GroundParts) (atoms funcs : ℕ) (y : Layer) where
-  no-adds : (p : ℕ) → atoms ≤ p → (acts : List GAction) → AllByRecursion (IsInRange atoms funcs) acts → list_any (λ a. is_supported y a && is_in p a.adds) acts ≡ false
+  pub no-adds : (p : ℕ) → atoms ≤ p → (acts : List GAction) → AllByRecursion (IsInRange atoms funcs) acts → list_any (λ a. is_supported y a && is_in p a.adds) acts ≡ false
   no-adds p l [] h = refl
   no-adds p l (a ∷ more) h = ap (λ b. (is_supported y a && b) || list_any (λ a. is_supported y a && is_in p a.adds) more) (h.0.adds_in p l)
       ∙ ap (λ b. b || list_any (λ a. is_supported y a && is_in p a.adds) more) (and-false (is_supported y a)) ∙ no-adds p l more h.1
 
-  no-dels : (p : ℕ) → atoms ≤ p → (acts : List GAction) → AllByRecursion (IsInRange atoms funcs) acts → list_any (λ a. is_supported y a && is_in p a.dels) acts ≡ false
+  pub no-dels : (p : ℕ) → atoms ≤ p → (acts : List GAction) → AllByRecursion (IsInRange atoms funcs) acts → list_any (λ a. is_supported y a && is_in p a.dels) acts ≡ false
   no-dels p l [] h = refl
   no-dels p l (a ∷ more) h = ap (λ b. (is_supported y a && b) || list_any (λ a. is_supported y a && is_in p a.dels) more) (h.0.dels_in p l)
       ∙ ap (λ b. b || list_any (λ a. is_supported y a && is_in p a.dels) more) (and-false (is_supported y a)) ∙ no-dels p l more h.1
@@ -42,7 +42,7 @@ module _ (task : GroundParts) (atoms funcs : ℕ) (y : Layer) where
   zero-none None = refl
   zero-none (Some i) = refl
 
-  no-reach : (f : ℕ) → funcs ≤ f → (acts : List GAction) (i : Option Interval) → AllByRecursion (IsInRange atoms funcs) acts → widened y f acts i ≡ i
+  pub no-reach : (f : ℕ) → funcs ≤ f → (acts : List GAction) (i : Option Interval) → AllByRecursion (IsInRange atoms funcs) acts → widened y f acts i ≡ i
   no-reach f l [] i h = refl
   no-reach f l (a ∷ more) i h = no-reach f l more (cond (is_supported y a) (hull i (reached y f a)) i) h.1 ∙ by_test (is_supported y a)
     where

@@ -1,5 +1,5 @@
 -- An action that has its step in a state of the layer is supported there.
-use Rattle.std.proofs.Common.{◌≡◌, ℕ, Bool, true, false, cond, ◌&&◌, List, [], ◌∷◌, refl, sym, Option, Some, None}
+use Rattle.std.proofs.Common.{◌≡◌, ℕ, Bool, true, false, cond, List, [], ◌∷◌, refl, sym, Option, Some, None}
 use Rattle.std.specs.List.{list_all, flat_map}
 use Rattle.std.proofs.lemmas.Bool.{and_parts, and_from}
 use lib.IntN.{pos}
@@ -20,7 +20,7 @@ use Rattle.relaxed.specs.declared.interval.Interval.{Interval}
 use Rattle.relaxed.specs.declared.range.Side.TheVariants.{Least, Greatest}
 use Rattle.relaxed.specs.Interval.{IsAbove, IsBelow, Within, MayBe, is_at_most, is_below}
 use Rattle.relaxed.specs.Range.{range_end}
-use Rattle.relaxed.specs.Layers.{Layer, is_there, interval_or_all, box, literal_may_hold, end_passes, ends_may_hold, comparison_may_hold, has_interval, is_readable, is_supported}
+use Rattle.relaxed.specs.Layers.{Layer, is_there, interval_or_all, box, literal_may_hold, end_passes, ends_may_hold, comparison_may_hold, has_interval, is_supported}
 use Rattle.relaxed.specs.InLayer.{InLayer}
 use Rattle.relaxed.proofs.Tests.{true-at_most, true-below}
 use Rattle.relaxed.proofs.ReadLaws.{all-left, all-right, all_from, all-more, reads-comparisons}

@@ -3,7 +3,7 @@ use Rattle.std.proofs.Common.{◌≡◌, zero, suc, Bool, true, false, refl, sym
 use lib.Dec.{T}
 use lib.IntN.{ℤ, pos, negsuc}
 use Rattle.rational.specs.Fraction.{Fraction, whole, IsPositive, ◌≤ℚ◌, ◌<ℚ◌}
-use Rattle.rational.proofs.OrderLaws.{<ℚ-weaken, positive-iff, >-from_not, ≥-from_not}
+use Rattle.rational.proofs.OrderLaws.{<ℚ-weaken, <ℚ-not-≥, positive-iff, >-from_not, ≥-from_not}
 use Rattle.rational.proofs.FieldLaws.{zero_num}
 use Rattle.lin.specs.Normal.{is_zero, is_zero_ℤ}
 use Rattle.relaxed.specs.Interval.{is_at_most, is_below}
@@ -48,3 +48,17 @@ zero_whole (negsuc n) h = absurd (cc)
 
 pub is_zero-true : (x : Fraction) → is_zero x ≡ true → x ≡ whole (pos 0)
 is_zero-true x h = zero_num x (zero_whole x.num h)
+
+pub above-not : (x y : Fraction) → y <ℚ x → is_at_most x y ≡ false
+above-not x y h = by_test (is_at_most x y) refl
+  where
+    by_test : (b : Bool) → is_at_most x y ≡ b → b ≡ false
+    by_test true e = absurd (<ℚ-not-≥ y x h (at_most-true x y e))
+    by_test false e = refl
+
+pub not_below : (x y : Fraction) → y ≤ℚ x → is_below x y ≡ false
+not_below x y h = by_test (is_below x y) refl
+  where
+    by_test : (b : Bool) → is_below x y ≡ b → b ≡ false
+    by_test true e = absurd (<ℚ-not-≥ x y (below-true x y e) h)
+    by_test false e = refl

@@ -2,10 +2,9 @@
 use Rattle.std.proofs.Common.{◌≡◌, ℕ, zero, suc, ◌<◌, Bool, true, false, cond, List, [], ◌∷◌, length, get_or, Option, arith}
 use Rattle.rational.specs.Fraction.{Fraction}
 use Rattle.task_core.specs.declared.action.GAction.{GAction}
-use Rattle.task_core.specs.Step.{keeps}
 use Rattle.relaxed.specs.declared.interval.Interval.{Interval}
 use Rattle.relaxed.specs.Interval.{MayBe, hull}
-use Rattle.relaxed.specs.Layers.{Layer, is_supported, reached, widened, layer}
+use Rattle.relaxed.specs.Layers.{Layer, is_supported, reached, widened}
 use Rattle.relaxed.proofs.Hulls.{hull-left, hull-right}
 
 module _ (y : Layer) (f : ℕ) (z : Fraction) where

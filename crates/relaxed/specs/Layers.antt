@@ -2,9 +2,8 @@
 -- (this project, after the relaxations of numeric planning).
 use Rattle.std.specs.Prelude.{◌≡◌, ℕ, zero, suc, Bool, true, false, not, ◌&&◌, ◌||◌, List, [], ◌∷◌, Option, Some, None, pos, if◌then◌else◌}
 use Rattle.std.specs.List.{list_any, list_all}
-use Rattle.std.specs.Option.{option_map}
 use Rattle.rational.specs.Fraction.{Fraction, whole}
-use Rattle.rational.specs.Linear.{Terms, coefficient_of}
+use Rattle.rational.specs.Linear.{coefficient_of}
 use Rattle.lin.specs.Normal.{is_zero}
 use Rattle.lin.specs.Linear.{Linear}
 use Rattle.lin.specs.declared.comparison.Cmp.{Cmp}

@@ -4,3 +4,5 @@ pub mod Layers
 pub mod Supported
 pub mod Named
 pub mod InLayer
+pub mod Answer
+pub mod inside

@@ -1,5 +1,6 @@
 -- The operations that are named in making the layers, each with its layer, its action and its part.
-use Rattle.std.specs.Prelude.{ℕ, suc, Bool, not, ◌&&◌, List, [], ◌∷◌, ◌++◌, map, if◌then◌else◌}
+use Rattle.std.specs.Prelude.{◌≡◌, ◌⊎◌, ℕ, suc, Bool, not, ◌&&◌, List, [], ◌∷◌, ◌++◌, map, if◌then◌else◌}
+use Rattle.std.specs.List.{AllByRecursion}
 use Rattle.frac128.specs.Operations.{Fits, Passes}
 use Rattle.frac128.specs.declared.operations.Wide.{Wide}
 use Rattle.lin.specs.Linear.{Linear}
@@ -35,12 +36,17 @@ abbrev pub of_sets : Layer → ℕ → List (ℕ × Linear) → List (RangePart 
 of_sets y i [] = []
 of_sets y i (s ∷ more) = map (λ o. (Set i, o)) (set_operations y s.0 s.1) ++ of_sets y (suc i) more
 
--- in layer n: the comparisons of an action that no earlier layer supports and that is readable, and the new values of one
--- that is supported
+-- the comparisons of an action that no earlier layer supports and that is readable
+abbrev pub tested_operations : Bool → Layer → GAction → List (RangePart × Wide)
+tested_operations seen y a = if not seen && is_readable y a then of_comparisons y 0 a.cmps else []
+
+-- the new values of an action that is supported
+abbrev pub given_operations : Layer → GAction → List (RangePart × Wide)
+given_operations y a = if is_supported y a then of_sets y 0 a.sets else []
+
+-- all of an action in layer n
 abbrev pub operations_of : GroundParts → ℕ → GAction → List (RangePart × Wide)
-operations_of task n a =
-    (if not (is_seen task n a) && is_readable (layer task n) a then of_comparisons (layer task n) 0 a.cmps else [])
-    ++ (if is_supported (layer task n) a then of_sets (layer task n) 0 a.sets else [])
+operations_of task n a = tested_operations (is_seen task n a) (layer task n) a ++ given_operations (layer task n) a
 
 -- the operation fits 128 bits, or it passes them
 abbrev pub FitsIn : Wide → Type 0
@@ -48,3 +54,12 @@ FitsIn w = Fits w.op w.x w.y
 
 abbrev pub Passing : Wide → Type 0
 Passing w = Passes w.op w.x w.y
+
+-- each of them fits
+abbrev pub AllPartsFit : List (RangePart × Wide) → Type 0
+AllPartsFit ops = AllByRecursion (λ o. FitsIn o.1) ops
+
+-- the operation is named for the part, and passes
+abbrev pub IsOnePassing : List (RangePart × Wide) → RangePart → Wide → Type 0
+IsOnePassing [] part w = ⊥
+IsOnePassing (o ∷ more) part w = ((o ≡ (part, w)) × Passing w) ⊎ IsOnePassing more part w

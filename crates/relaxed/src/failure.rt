@@ -1,4 +1,6 @@
 //! Why layers aren't made.
+ghost use Rattle.std.specs.Prelude.{◌≡◌};
+
 use frac128::Wide;
 use std::alloc::AllocError;
 use thiserror::Error;
@@ -27,4 +29,26 @@ pub enum LayerFail {
     RangeWide(RangeWide),
     #[error("memory ran out")]
     Memory,
+}
+
+/// The operation of a part, where its place can be told.
+pub(crate) fn passing(layer: u64, action: u32, part: RangePart, wide: Wide) -> LayerFail
+    ensures { result ≡ LayerFail.RangeWide (record { layer = layer; action = action; part = part; wide = wide }) }
+{
+    LayerFail::RangeWide(RangeWide {
+        layer,
+        action,
+        part,
+        wide,
+    })
+}
+
+impl From<AllocError> for LayerFail {
+    ghost use Rattle.relaxed.specs.declared.failure.LayerFail.TheVariants as fail;
+
+    ghost from_gives = { λ _ e. e ≡ fail.Memory };
+
+    fn from(_error: AllocError) -> LayerFail {
+        LayerFail::Memory
+    }
 }

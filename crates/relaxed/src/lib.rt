@@ -6,6 +6,16 @@
 mod failure;
 mod interval;
 pub mod laws;
+mod making;
+mod next;
 mod range;
+mod reaching;
+mod same;
+mod start;
+mod support;
+mod table;
+mod testing;
+mod widening;
 
 pub use failure::{LayerFail, RangePart, RangeWide};
+pub use making::{Layers, layers_of};
