@@ -1,7 +1,8 @@
 //! A linear expression: terms in rising variable, none with the coefficient 0, and a constant. Begin with `Lin`.
-ghost use Rattle.std.specs.Prelude.{◌≡◌, ◌<◌, length, IfOk, slice_get, Some};
+ghost use Rattle.std.specs.List.{list_all};
+ghost use Rattle.std.specs.Prelude.{◌≡◌, ◌↔◌, IsTrue, nat_lt, ◌<◌, length, IfOk, slice_get, Some};
 ghost use Rattle.lin.specs.Normal.{IsNormal};
-ghost use Rattle.lin.specs.Linear.{fixed, var};
+ghost use Rattle.lin.specs.Linear.{AreBelow, fixed, var};
 
 use frac128::Frac;
 use sqlite_items::Items;
@@ -80,6 +81,13 @@ impl Lin {
         self.constant
     }
 
+    /// Whether each of its variables is below `vars`.
+    pub fn is_below(&self, vars: u64) -> bool
+        ensures { IsTrue result ↔ AreBelow vars self.now.terms }
+    {
+        are_below(self.all_terms(), vars)
+    }
+
     /// An equal expression of its own.
     pub fn try_clone(&self) -> Result<Lin, AllocError>
         ensures { IfOk result (λ l. l ≡ self.now) }
@@ -98,4 +106,15 @@ impl Lin {
     pub(crate) fn alloc(&self) -> Global {
         self.alloc
     }
+}
+
+fn are_below(terms: &[(u64, Frac)], vars: u64) -> bool
+    ensures { result ≡ list_all (λ t. nat_lt t.0 vars) terms.now }
+{
+    for term in terms {
+        if term.0 >= vars {
+            return false;
+        }
+    }
+    true
 }
