@@ -17,8 +17,3 @@ mod text;
 pub use fraction::Frac;
 pub use operations::{Op, Wide};
 pub use text::NumFault;
-
-#[cfg(test)]
-mod edge_rows;
-#[cfg(test)]
-mod tests;
