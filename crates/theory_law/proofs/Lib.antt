@@ -1,0 +1,4 @@
+pub mod Atomless
+pub mod Fronts
+pub mod Marks
+pub mod Zeros
