@@ -7,7 +7,7 @@ use Rattle.relaxed.specs.declared.table.Table.{Table}
 use Rattle.relaxed.specs.Interval.{point}
 use Rattle.relaxed.specs.Layers.{Layer}
 
--- beyond the task's numbers all is as at the start of the definitions: false, and the fraction 0
+-- beyond the task's numbers nothing ever changes: false, and the fraction 0
 abbrev pub interval_in : List (Option Interval) → ℕ → Option Interval
 interval_in is f = slice_index_or is f (Some (point (whole (pos 0))))
 
