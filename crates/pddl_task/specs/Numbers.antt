@@ -8,13 +8,12 @@ use Rattle.pddl_task.specs.declared.condition.Cond.TheVariants as cond
 use Rattle.pddl_task.specs.declared.effect.Effect.{Effect}
 use Rattle.pddl_task.specs.declared.effect.Effect.TheVariants as effect
 use Rattle.pddl_task.specs.declared.expression.Expr.{Expr}
-use Rattle.pddl_task.specs.declared.expression.Expr.TheOpen.{Expr-F}
-use Rattle.pddl_task.specs.declared.expression.Expr.TheFolds.{fold-Expr}
 use Rattle.pddl_task.specs.declared.expression.Term.{Term}
 use Rattle.pddl_task.specs.declared.expression.Term.TheVariants.{Param, Object}
 use Rattle.pddl_task.specs.declared.start.Fact.{Fact}
 use Rattle.pddl_task.specs.declared.start.Given.{Given}
 use Rattle.pddl_task.specs.declared.parts.TaskParts.{TaskParts}
+use Rattle.pddl_task.specs.Calls.{all_calls}
 
 -- how many there are of each
 pub record Counts : Type 0 where
@@ -37,17 +36,9 @@ are_terms counts params args = list_all (is_term counts params) args
 abbrev pub is_call : Counts → ℕ → ℕ → ℕ → List Term → Bool
 is_call counts params declared number args = nat_lt number declared && are_terms counts params args
 
-abbrev pub expression_step : Counts → ℕ → Expr-F Bool → Bool
-expression_step counts params (Expr-F.Num n) = true
-expression_step counts params (Expr-F.Call func args) = is_call counts params counts.funcs func args
-expression_step counts params (Expr-F.Add args) = list_all (λ a. a) args
-expression_step counts params (Expr-F.Mul args) = list_all (λ a. a) args
-expression_step counts params (Expr-F.Neg a) = a
-expression_step counts params (Expr-F.Sub a b) = a && b
-expression_step counts params (Expr-F.Div a b) = a && b
-
-unfoldable pub is_expression : Counts → ℕ → Expr → Bool
-is_expression counts params = fold-Expr Bool (expression_step counts params)
+-- each function that stands in it is called so
+abbrev pub is_expression : Counts → ℕ → Expr → Bool
+is_expression counts params e = all_calls (is_call counts params counts.funcs) e
 
 abbrev pub is_condition : Counts → ℕ → Cond → Bool
 is_condition counts params (cond.Lit pos pred args) = is_call counts params counts.preds pred args
@@ -92,3 +83,4 @@ pub record IsCountable (task : TaskParts) : Type 0 where
   pub objects : length task.objects < 2 ^ 32
   pub preds : length task.preds < 2 ^ 32
   pub funcs : length task.funcs < 2 ^ 32
+  pub actions : length task.actions < 2 ^ 32

@@ -7,7 +7,8 @@ ghost use Rattle.name_table.specs.NameTable.{number_in};
 ghost use Rattle.hierarchy.specs.Hierarchy.{is_below};
 ghost use Rattle.pddl_task.specs.Task.{names_of, parents, AreFlags, changes_pred, changes_func, is_changing_pred, is_changing_func};
 ghost use Rattle.pddl_task.specs.inside.Kept.{Marks};
-ghost use Rattle.pddl_task.specs.Numbers.{IsNumbered, IsCountable};
+ghost use Rattle.pddl_task.specs.Numbers.{IsNumbered};
+ghost use Rattle.pddl_task.specs.WellFormed.{IsWellFormed};
 
 use crate::action::Action;
 use crate::condition::Cond;
@@ -158,8 +159,7 @@ impl Task {
     ) -> Result<Task, AllocError>
         requires names { type_names ≡ names_of parts.types }
         requires above { hierarchy ≡ parents parts.types }
-        requires numbered { IsNumbered parts }
-        requires few { IsCountable parts }
+        requires well_formed { IsWellFormed parts }
         ensures { IfOk result (λ t. t ≡ parts) }
     {
         let changing_preds = changing_preds(alloc, parts.preds.len(), parts.actions.as_slice())?;
@@ -171,6 +171,13 @@ impl Task {
             changing_preds,
             changing_funcs,
         })
+    }
+
+    /// Each task is well formed. This is a law for callers, and does nothing.
+    pub fn well_formed(&self)
+        ensures { IsWellFormed self.now }
+    {
+        let _ = &self.parts;
     }
 
     /// How many types.

@@ -1,5 +1,7 @@
 //! What the tables share: bytes, tasks, plans, and failures as texts.
-ghost use Rattle.std.specs.Prelude.{IfOk};
+ghost use Rattle.std.specs.Prelude.{IfOk, IsTrue};
+ghost use Rattle.pddl_domain.specs.Grammar.{is_domain};
+ghost use Rattle.pddl_problem.specs.Grammar.{is_problem};
 ghost use Rattle.plan_text.specs.Printed.{IsPlanOf};
 
 use frac128::{Op, Wide};
@@ -75,13 +77,17 @@ pub(crate) fn check_answer(
     Ok(())
 }
 
-fn domain(rt: &impl Abort, alloc: Global, bytes: &[u8]) -> Result<DomainAst, TextRefusal> {
+fn domain(rt: &impl Abort, alloc: Global, bytes: &[u8]) -> Result<DomainAst, TextRefusal>
+    ensures { IfOk result (λ made. IsTrue (is_domain made)) }
+{
     assert!(rt; bytes.len() <= 67108864);
     let tree = read(alloc, Source::Domain, bytes)?;
     read_domain(alloc, &tree)
 }
 
-fn problem(rt: &impl Abort, alloc: Global, bytes: &[u8]) -> Result<ProblemAst, TextRefusal> {
+fn problem(rt: &impl Abort, alloc: Global, bytes: &[u8]) -> Result<ProblemAst, TextRefusal>
+    ensures { IfOk result (λ made. IsTrue (is_problem made)) }
+{
     assert!(rt; bytes.len() <= 67108864);
     let tree = read(alloc, Source::Problem, bytes)?;
     read_problem(alloc, &tree)

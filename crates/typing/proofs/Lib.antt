@@ -1,8 +1,8 @@
-pub mod Fitting
-pub mod TypeLaws
-pub mod GivenLaws
-pub mod Good
 pub mod NumberLaws
 pub mod Numbered
 pub mod Passes
 pub mod ItemLaws
+pub mod TypedLaws
+pub mod TypeTree
+pub mod ValueLaws
+pub mod WellFormedLaws

@@ -2,7 +2,7 @@
 use Rattle.std.proofs.Common.{◌≡◌, ℕ, ◌+◌, ◌<◌, ◌≤◌, Bool, true, false, List, [], ◌∷◌, ◌++◌, length, map, Option, Some, None, arith, refl, sym, ◌∙◌, ap, subst}
 use Rattle.std.specs.Prelude.{◌&&◌, nat_lt, if◌then◌else◌, is_some, codes, bytes_eq}
 use Rattle.std.specs.List.{list_all}
-use Rattle.std.proofs.lemmas.Bool.{lt-ltb}
+use Rattle.std.proofs.lemmas.Bool.{lt-ltb, and_parts}
 use Rattle.std.proofs.lemmas.List.{length-append}
 use Rattle.std.proofs.lemmas.List.Quantifiers.{position-Some}
 use Rattle.rational.specs.Fraction.{Fraction}
@@ -10,9 +10,6 @@ use Rattle.name_table.specs.NameTable.{number_in, with_name}
 use Rattle.pddl_form.specs.declared.spot.Spot.{Spot}
 use Rattle.pddl_condition.specs.declared.expression.ExprAst.{ExprAst}
 use Rattle.pddl_condition.specs.declared.expression.ExprAst.TheVariants as ast
-use Rattle.pddl_condition.specs.declared.expression.ExprAst.TheOpen.{ExprAst-F}
-use Rattle.pddl_condition.specs.declared.expression.ExprAst.TheFolds.{ind-ExprAst, map-ExprAst}
-use Rattle.pddl_condition.specs.declared.expression.ExprAst.TheViews.{roll-ExprAst}
 use Rattle.pddl_condition.specs.declared.condition.CondAst.{CondAst}
 use Rattle.pddl_condition.specs.declared.condition.CondAst.TheVariants as cond_ast
 use Rattle.pddl_form.specs.Judged.{good, mapped, both, each}
@@ -23,18 +20,19 @@ use Rattle.pddl_task.specs.declared.expression.Term.{Term}
 use Rattle.pddl_task.specs.declared.expression.Term.TheVariants as term
 use Rattle.pddl_task.specs.declared.expression.Expr.{Expr}
 use Rattle.pddl_task.specs.declared.expression.Expr.TheVariants as expr
-use Rattle.pddl_task.specs.declared.expression.Expr.TheOpen.{Expr-F}
-use Rattle.pddl_task.specs.declared.expression.Expr.TheFolds.{fold-Expr, fold-roll-Expr}
+use Rattle.pddl_task.specs.declared.expression.Expr.TheFolds.{fold-Expr}
 use Rattle.pddl_task.specs.declared.condition.Cond.{Cond}
 use Rattle.pddl_task.specs.declared.condition.Cond.TheVariants as cond
 use Rattle.pddl_task.specs.declared.effect.Effect.{Effect}
 use Rattle.pddl_task.specs.declared.effect.Effect.TheVariants as effect
-use Rattle.pddl_task.specs.Numbers.{Counts, is_term, are_terms, is_call, expression_step, is_expression, is_condition, is_effect}
-use Rattle.typing_uses.specs.Scope.{Scope, named, found_at, term_named, terms_named, sighted}
-use Rattle.pddl_form.specs.Gather.{apply}
-use Rattle.typing_uses.specs.Expressions.{minus, over, operation, expression_named, condition_named, change_by, change_operator, relation, effect_named}
+use Rattle.pddl_task.specs.Calls.{call_step, all_calls}
+use Rattle.pddl_task.specs.Numbers.{Counts, is_term, are_terms, is_call, is_expression, is_condition, is_effect}
+use Rattle.pddl_task.proofs.Written.{fold-Num, fold-Call, fold-Add, fold-Mul, fold-Neg, fold-Sub, fold-Div}
+use Rattle.typing_uses.specs.Scope.{Scope, named, term_named, terms_named, sighted}
+use Rattle.typing_uses.specs.Expressions.{minus, over, operation, operation_named, expression_named, condition_named, relation, effect_named}
 use Rattle.typing_uses.proofs.ExpressionLaws.{expression_named-num, expression_named-call, expression_named-op}
-use Rattle.typing.proofs.Good.{MappedGood, mapped_good, BothGood, both_good, both_true, each_passes}
+use Rattle.typing_uses.proofs.Written.{every_expression}
+use Rattle.typing_uses.proofs.Good.{MappedGood, mapped_good, BothGood, both_good, both_true, each_passes, AndThenGood, and_then_good, KnownGood, known_good, number_of, ChangeGood, change_good}
 
 -- ---- numbers of names
 
@@ -49,15 +47,11 @@ pub record Fits (scope : Scope) (counts : Counts) (count : ℕ) : Type 0 where
 below_true : (n most count : ℕ) → n < most → most ≤ count → nat_lt n count ≡ true
 below_true n most count within few = lt-ltb n count (omega arith)
 
-found_within : (names : List (List ℕ)) (place : ℕ) (text : List ℕ) (found : Option ℕ) (n : ℕ) → number_in names text ≡ found → found_at place found ≡ good n → n < length names
-found_within names place text None n is made = absurd (cc made)
-found_within names place text (Some m) n is made =
-    let same : m ≡ n = cc made in
-    subst (λ k. k < length names) same (position-Some (bytes_eq text) names m [] is).0
+pub number_below : (names : List (List ℕ)) (text : List ℕ) (n : ℕ) → number_in names text ≡ Some n → n < length names
+number_below names text n is = (position-Some (bytes_eq text) names n [] is).0
 
 pub named_within : (names : List (List ℕ)) (spot : Spot) (n count : ℕ) → length names ≤ count → named names spot ≡ good n → nat_lt n count ≡ true
-unfolding named
-named_within names spot n count few made = below_true n (length names) count (found_within names spot.place spot.text (number_in names spot.text) n refl made) few
+named_within names spot n count few made = below_true n (length names) count (number_below names spot.text n (number_of names spot n made)) few
 
 pub term_within : (scope : Scope) (counts : Counts) (params : ℕ) → Fits scope counts params → (spot : Spot) (t : Term) → term_named scope spot ≡ good t → is_term counts params t ≡ true
 term_within scope counts params fits spot t made = by_test (is_variable spot.text) made
@@ -79,112 +73,127 @@ list_all-same : {X Y : Type 0} (f : X → Y) (test : Y → Bool) (xs : List X) �
 list_all-same f test [] = refl
 list_all-same f test (x ∷ xs) = ap (λ (b : Bool). test (f x) && b) (list_all-same f test xs)
 
-module _ (counts : Counts) (params : ℕ) where
+-- what holds of each
+abbrev pub AllOf : (ExprAst → Type 0) → List ExprAst → Type 0
+AllOf Q [] = Unit {0}
+AllOf Q (e ∷ es) = Q e × AllOf Q es
+
+module _ (test : ℕ → List Term → Bool) where
   is : Expr → Bool
-  is = is_expression counts params
+  is = all_calls test
 
   is-num : (n : Fraction) → is (expr.Num n) ≡ true
-  unfolding is is_expression
-  is-num n = ap (fold-Expr Bool (expression_step counts params)) (sym (expr.rolls-Num n)) ∙ fold-roll-Expr Bool (expression_step counts params) (Expr-F.Num n)
+  unfolding is all_calls
+  is-num n = fold-Num Bool (call_step test) n
 
-  is-call : (func : ℕ) (args : List Term) → is (expr.Call func args) ≡ is_call counts params counts.funcs func args
-  unfolding is is_expression
-  is-call func args = ap (fold-Expr Bool (expression_step counts params)) (sym (expr.rolls-Call func args)) ∙ fold-roll-Expr Bool (expression_step counts params) (Expr-F.Call func args)
+  is-call : (func : ℕ) (args : List Term) → is (expr.Call func args) ≡ test func args
+  unfolding is all_calls
+  is-call func args = fold-Call Bool (call_step test) func args
 
   is-add : (args : List Expr) → is (expr.Add args) ≡ list_all is args
-  unfolding is is_expression
-  is-add args =
-      ap (fold-Expr Bool (expression_step counts params)) (sym (expr.rolls-Add args)) ∙ fold-roll-Expr Bool (expression_step counts params) (Expr-F.Add args)
-      ∙ list_all-same (fold-Expr Bool (expression_step counts params)) (λ a. a) args
+  unfolding is all_calls
+  is-add args = fold-Add Bool (call_step test) args ∙ list_all-same (fold-Expr Bool (call_step test)) (λ a. a) args
 
   is-mul : (args : List Expr) → is (expr.Mul args) ≡ list_all is args
-  unfolding is is_expression
-  is-mul args =
-      ap (fold-Expr Bool (expression_step counts params)) (sym (expr.rolls-Mul args)) ∙ fold-roll-Expr Bool (expression_step counts params) (Expr-F.Mul args)
-      ∙ list_all-same (fold-Expr Bool (expression_step counts params)) (λ a. a) args
+  unfolding is all_calls
+  is-mul args = fold-Mul Bool (call_step test) args ∙ list_all-same (fold-Expr Bool (call_step test)) (λ a. a) args
 
   is-neg : (a : Expr) → is (expr.Neg a) ≡ is a
-  unfolding is is_expression
-  is-neg a = ap (fold-Expr Bool (expression_step counts params)) (sym (expr.rolls-Neg a)) ∙ fold-roll-Expr Bool (expression_step counts params) (Expr-F.Neg a)
+  unfolding is all_calls
+  is-neg a = fold-Neg Bool (call_step test) a
 
   is-sub : (a b : Expr) → is (expr.Sub a b) ≡ (is a && is b)
-  unfolding is is_expression
-  is-sub a b = ap (fold-Expr Bool (expression_step counts params)) (sym (expr.rolls-Sub a b)) ∙ fold-roll-Expr Bool (expression_step counts params) (Expr-F.Sub a b)
+  unfolding is all_calls
+  is-sub a b = fold-Sub Bool (call_step test) a b
 
   is-div : (a b : Expr) → is (expr.Div a b) ≡ (is a && is b)
-  unfolding is is_expression
-  is-div a b = ap (fold-Expr Bool (expression_step counts params)) (sym (expr.rolls-Div a b)) ∙ fold-roll-Expr Bool (expression_step counts params) (Expr-F.Div a b)
+  unfolding is all_calls
+  is-div a b = fold-Div Bool (call_step test) a b
 
-  first : (a b : Bool) → (a && b) ≡ true → a ≡ true
-  first true b h = refl
-  first false b h = h
+  two_are : (a b : Expr) → list_all is (a ∷ b ∷ []) ≡ true → (is a && is b) ≡ true
+  two_are a b all =
+      let h = and_parts (is a) (list_all is (b ∷ [])) all in
+      both_true (is a) (is b) h.0 (and_parts (is b) true h.1).0
 
-  rest : (a b : Bool) → (a && b) ≡ true → b ≡ true
-  rest true b h = h
-  rest false b h = absurd (cc h)
+  minus_is : (args : List Expr) (x : Expr) → list_all is args ≡ true → minus args ≡ Some x → is x ≡ true
+  minus_is [] x all made = absurd (cc made)
+  minus_is (a ∷ []) x all made = let same : expr.Neg a ≡ x = cc made in ap is (sym same) ∙ is-neg a ∙ (and_parts (is a) true all).0
+  minus_is (a ∷ b ∷ []) x all made = let same : expr.Sub a b ≡ x = cc made in ap is (sym same) ∙ is-sub a b ∙ two_are a b all
+  minus_is (a ∷ b ∷ c ∷ more) x all made = absurd (cc made)
 
-  minus_is : (args : List Expr) → list_all is args ≡ true → is (minus args) ≡ true
-  minus_is [] all = is-add []
-  minus_is (a ∷ []) all = is-neg a ∙ first (is a) true all
-  minus_is (a ∷ b ∷ more) all = is-sub a b ∙ both_true (is a) (is b) (first (is a) (is b && list_all is more) all) (first (is b) (list_all is more) (rest (is a) (is b && list_all is more) all))
+  over_is : (args : List Expr) (x : Expr) → list_all is args ≡ true → over args ≡ Some x → is x ≡ true
+  over_is [] x all made = absurd (cc made)
+  over_is (a ∷ []) x all made = absurd (cc made)
+  over_is (a ∷ b ∷ []) x all made = let same : expr.Div a b ≡ x = cc made in ap is (sym same) ∙ is-div a b ∙ two_are a b all
+  over_is (a ∷ b ∷ c ∷ more) x all made = absurd (cc made)
 
-  over_is : (args : List Expr) → list_all is args ≡ true → is (over args) ≡ true
-  over_is [] all = is-add []
-  over_is (a ∷ []) all = first (is a) true all
-  over_is (a ∷ b ∷ more) all = is-div a b ∙ both_true (is a) (is b) (first (is a) (is b && list_all is more) all) (first (is b) (list_all is more) (rest (is a) (is b && list_all is more) all))
-
-  operation_is : (op : List ℕ) (args : List Expr) → list_all is args ≡ true → is (operation op args) ≡ true
-  operation_is op args all = by_test (bytes_eq op (codes "*")) (bytes_eq op (codes "-")) (bytes_eq op (codes "/"))
+  operation_is : (op : List ℕ) (args : List Expr) (x : Expr) → list_all is args ≡ true → operation op args ≡ Some x → is x ≡ true
+  operation_is op args x all made = by_test (bytes_eq op (codes "*")) (bytes_eq op (codes "+")) (bytes_eq op (codes "-")) (bytes_eq op (codes "/")) made
     where
-      by_test : (a b c : Bool) → is (if a then expr.Mul args else (if b then minus args else (if c then over args else expr.Add args))) ≡ true
-      by_test true b c = is-mul args ∙ all
-      by_test false true c = minus_is args all
-      by_test false false true = over_is args all
-      by_test false false false = is-add args ∙ all
+      by_test : (a b c d : Bool) → (if a then Some (expr.Mul args) else (if b then Some (expr.Add args) else (if c then minus args else (if d then over args else None)))) ≡ Some x → is x ≡ true
+      by_test true b c d h = let same : expr.Mul args ≡ x = cc h in ap is (sym same) ∙ is-mul args ∙ all
+      by_test false true c d h = let same : expr.Add args ≡ x = cc h in ap is (sym same) ∙ is-add args ∙ all
+      by_test false false true d h = minus_is args x all h
+      by_test false false false true h = over_is args x all h
+      by_test false false false false h = absurd (cc h)
 
-  module _ (scope : Scope) (fits : Fits scope counts params) where
-    abbrev IsWithin : ExprAst → Type 0
-    IsWithin e = (x : Expr) → expression_named scope e ≡ good x → is x ≡ true
+  -- where a premise on an expression gives the test of its calls, and holds of the arguments of an operation
+  module _ (scope : Scope) (Q : ExprAst → Type 0)
+      (call_passes : (name : Spot) (args : List Spot) (n : ℕ) (ts : List Term) → Q (ast.Call name args) → named scope.funcs name ≡ good n → terms_named scope args ≡ good ts → test n ts ≡ true)
+      (of_arguments : (op : Spot) (args : List ExprAst) → Q (ast.Op op args) → AllOf Q args) where
+    abbrev Passes : ExprAst → Type 0
+    Passes e = (x : Expr) → Q e → expression_named scope e ≡ good x → is x ≡ true
 
-    number_is : (n : Fraction) → IsWithin (ast.Num n)
-    number_is n x made =
+    number_is : (n : Fraction) → Passes (ast.Num n)
+    number_is n x q made =
         let same : expr.Num n ≡ x = cc (sym (expression_named-num scope n) ∙ made) in
         subst (λ (y : Expr). is y ≡ true) same (is-num n)
 
-    function_is : (name : Spot) (args : List Spot) → IsWithin (ast.Call name args)
-    function_is name args x made =
+    function_is : (name : Spot) (args : List Spot) → Passes (ast.Call name args)
+    function_is name args x q made =
         let h : BothGood expr.Call (named scope.funcs name) (terms_named scope args) x = both_good expr.Call (named scope.funcs name) (terms_named scope args) x (sym (expression_named-call scope name args) ∙ made) in
-        subst (λ (y : Expr). is y ≡ true) h.made
-        (is-call h.left h.right ∙ both_true (nat_lt h.left counts.funcs) (are_terms counts params h.right) (named_within scope.funcs name h.left counts.funcs fits.funcs h.left_is)
-        (terms_within scope counts params fits args h.right h.right_is))
+        subst (λ (y : Expr). is y ≡ true) h.made (is-call h.left h.right ∙ call_passes name args h.left h.right q h.left_is h.right_is)
 
-    abbrev plain : List ((e : ExprAst) × IsWithin e) → List ExprAst
+    abbrev plain : List ((e : ExprAst) × Passes e) → List ExprAst
     plain items = map (λ e. e.0) items
 
-    args_are : (items : List ((e : ExprAst) × IsWithin e)) (xs : List Expr) → each (map (expression_named scope) (plain items)) ≡ good xs → list_all is xs ≡ true
-    args_are [] xs made = let none : [] ≡ xs = cc made in subst (λ (l : List Expr). list_all is l ≡ true) none refl
-    args_are (e ∷ items) xs made =
+    args_are : (items : List ((e : ExprAst) × Passes e)) (xs : List Expr) → AllOf Q (plain items) → each (map (expression_named scope) (plain items)) ≡ good xs → list_all is xs ≡ true
+    args_are [] xs q made = let none : [] ≡ xs = cc made in subst (λ (l : List Expr). list_all is l ≡ true) none refl
+    args_are (e ∷ items) xs q made =
         let h : BothGood ◌∷◌ (expression_named scope e.0) (each (map (expression_named scope) (plain items))) xs =
         both_good ◌∷◌ (expression_named scope e.0) (each (map (expression_named scope) (plain items))) xs made in
-        subst (λ (l : List Expr). list_all is l ≡ true) h.made (both_true (is h.left) (list_all is h.right) (e.1 h.left h.left_is) (args_are items h.right h.right_is))
+        subst (λ (l : List Expr). list_all is l ≡ true) h.made (both_true (is h.left) (list_all is h.right) (e.1 h.left q.0 h.left_is) (args_are items h.right q.1 h.right_is))
 
-    operator_is : (op : Spot) (items : List ((e : ExprAst) × IsWithin e)) → IsWithin (ast.Op op (plain items))
-    operator_is op items x made =
-        let h : MappedGood (operation op.text) (each (map (expression_named scope) (plain items))) x =
-        mapped_good (operation op.text) (each (map (expression_named scope) (plain items))) x (sym (expression_named-op scope op (plain items)) ∙ made) in
-        subst (λ (y : Expr). is y ≡ true) h.made (operation_is op.text h.part (args_are items h.part h.part_is))
+    operator_is : (op : Spot) (items : List ((e : ExprAst) × Passes e)) → Passes (ast.Op op (plain items))
+    operator_is op items x q made =
+        let h : AndThenGood (each (map (expression_named scope) (plain items))) (operation_named op) x =
+        and_then_good (each (map (expression_named scope) (plain items))) (operation_named op) x (sym (expression_named-op scope op (plain items)) ∙ made) in
+        let k : KnownGood (operation op.text h.part) good x = known_good op (operation op.text h.part) good x h.made in
+        let same : k.part ≡ x = cc (k.made) in
+        operation_is op.text h.part x (args_are items h.part (of_arguments op (plain items) q) h.part_is) (k.part_is ∙ ap Some same)
 
-    rolled : (y : ExprAst-F ((e : ExprAst) × IsWithin e)) → IsWithin (roll-ExprAst (map-ExprAst ((e : ExprAst) × IsWithin e) ExprAst (λ e. e.0) y))
-    rolled (ExprAst-F.Num n) = subst IsWithin (sym (ast.rolls-Num n)) (number_is n)
-    rolled (ExprAst-F.Call name args) = subst IsWithin (sym (ast.rolls-Call name args)) (function_is name args)
-    rolled (ExprAst-F.Op op items) = subst IsWithin (sym (ast.rolls-Op op (plain items))) (operator_is op items)
+    every : (e : ExprAst) → Passes e
+    every = every_expression Passes number_is function_is operator_is
 
-    every : (e : ExprAst) → IsWithin e
-    every = ind-ExprAst IsWithin (λ x y same. subst (λ (d : ExprAst-F ExprAst). IsWithin (roll-ExprAst d)) same (rolled y))
+-- each call of an expression passes, where the premise gives so of its own calls
+pub calls_pass : (test : ℕ → List Term → Bool) (scope : Scope) (Q : ExprAst → Type 0)
+    → ((name : Spot) (args : List Spot) (n : ℕ) (ts : List Term) → Q (ast.Call name args) → named scope.funcs name ≡ good n → terms_named scope args ≡ good ts → test n ts ≡ true)
+    → ((op : Spot) (args : List ExprAst) → Q (ast.Op op args) → AllOf Q args) → (e : ExprAst) (x : Expr) → Q e → expression_named scope e ≡ good x → all_calls test x ≡ true
+unfolding is
+calls_pass test scope Q call_passes of_arguments e x q made = every test scope Q call_passes of_arguments e x q made
+
+abbrev Any : ExprAst → Type 0
+Any e = Unit {0}
+
+any_of : (args : List ExprAst) → AllOf Any args
+any_of [] = tt
+any_of (e ∷ es) = (tt, any_of es)
 
 pub expression_within : (scope : Scope) (counts : Counts) (params : ℕ) → Fits scope counts params → (e : ExprAst) (x : Expr) → expression_named scope e ≡ good x → is_expression counts params x ≡ true
-unfolding is
-expression_within scope counts params fits e x made = every counts params scope fits e x made
+expression_within scope counts params fits e x made =
+    calls_pass (is_call counts params counts.funcs) scope Any
+    (λ name args n ts q is_named are_named. both_true (nat_lt n counts.funcs) (are_terms counts params ts) (named_within scope.funcs name n counts.funcs fits.funcs is_named) (terms_within scope counts params fits args ts are_named))
+    (λ op args q. any_of args) e x tt made
 
 -- ---- conditions and effects
 
@@ -202,8 +211,10 @@ condition_within scope counts params fits (cond_ast.Same pos left right) x made 
     subst (λ (y : Cond). is_condition counts params y ≡ true) h.made
     (both_true (is_term counts params h.left) (is_term counts params h.right) (term_within scope counts params fits left h.left h.left_is) (term_within scope counts params fits right h.right h.right_is))
 condition_within scope counts params fits (cond_ast.Compare r left right) x made =
-    let h : BothGood (cond.Compare (relation r.text)) (expression_named scope left) (expression_named scope right) x =
-    both_good (cond.Compare (relation r.text)) (expression_named scope left) (expression_named scope right) x made in
+    let k : KnownGood (relation r.text) (λ o. both (cond.Compare o) (expression_named scope left) (expression_named scope right)) x =
+    known_good r (relation r.text) (λ o. both (cond.Compare o) (expression_named scope left) (expression_named scope right)) x made in
+    let h : BothGood (cond.Compare k.part) (expression_named scope left) (expression_named scope right) x =
+    both_good (cond.Compare k.part) (expression_named scope left) (expression_named scope right) x k.made in
     subst (λ (y : Cond). is_condition counts params y ≡ true) h.made
     (both_true (is_expression counts params h.left) (is_expression counts params h.right) (expression_within scope counts params fits left h.left h.left_is) (expression_within scope counts params fits right h.right h.right_is))
 
@@ -211,14 +222,11 @@ pub effect_within : (scope : Scope) (counts : Counts) (params : ℕ) → Fits sc
 effect_within scope counts params fits (eff_ast.Put pos name args) x made =
     call_within scope counts params fits scope.preds counts.preds fits.preds (effect.Put pos) name args x (both_good (effect.Put pos) (named scope.preds name) (terms_named scope args) x made) (is_effect counts params) (λ n ts. refl)
 effect_within scope counts params fits (eff_ast.Change op name args by) x made =
-    let h : BothGood apply (both (change_by (change_operator op.text)) (named scope.funcs name) (terms_named scope args)) (expression_named scope by) x =
-    both_good apply (both (change_by (change_operator op.text)) (named scope.funcs name) (terms_named scope args)) (expression_named scope by) x made in
-    let k : BothGood (change_by (change_operator op.text)) (named scope.funcs name) (terms_named scope args) h.left =
-    both_good (change_by (change_operator op.text)) (named scope.funcs name) (terms_named scope args) h.left h.left_is in
-    subst (λ (y : Effect). is_effect counts params y ≡ true) (ap (λ (f : Expr → Effect). f h.right) k.made ∙ h.made)
-    (both_true (is_call counts params counts.funcs k.left k.right) (is_expression counts params h.right)
-    (both_true (nat_lt k.left counts.funcs) (are_terms counts params k.right) (named_within scope.funcs name k.left counts.funcs fits.funcs k.left_is) (terms_within scope counts params fits args k.right k.right_is))
-    (expression_within scope counts params fits by h.right h.right_is))
+    let g : ChangeGood scope op name args by x = change_good scope op name args by x made in
+    subst (λ (y : Effect). is_effect counts params y ≡ true) g.made
+    (both_true (is_call counts params counts.funcs g.func g.args) (is_expression counts params g.by)
+    (both_true (nat_lt g.func counts.funcs) (are_terms counts params g.args) (named_within scope.funcs name g.func counts.funcs fits.funcs g.func_is) (terms_within scope counts params fits args g.args g.args_are))
+    (expression_within scope counts params fits by g.by g.by_is))
 
 -- ---- how many names there are
 

@@ -30,11 +30,12 @@ use Rattle.pddl_form.specs.Gather.{apply}
 use Rattle.typing_uses.specs.Expressions.{condition_named, conditions_named, effect_named, effects_named}
 use Rattle.typing_names.specs.Domain.{names_of, heads_of, object_name, type_names, supertype_of, type_called, types_in, written_type, object_with, object_named, objects_named, or_object, parameter_named, parameters_named, signature_with, signature_named, signatures_named, action_with, within, action_named, actions_named, DomainParts, domain_scope, domain_again, domain_names}
 use Rattle.typing_names.specs.Problem.{Item, atom, value, value_with, objects_in, item_named, facts_in, values_in, ProblemParts, problem_scope, problem_names}
-use Rattle.typing.specs.Types.{domain_declared, problem_declared}
-use Rattle.typing.specs.Known.{AreTyped, are_all_types, have_types}
+use Rattle.typing_types.specs.Types.{domain_declared, problem_declared}
+use Rattle.typing_types.specs.Known.{AreTyped, are_all_types, have_types}
 use Rattle.typing_names.specs.Items.{is_counted}
 use Rattle.typing.specs.Link.{task_of}
-use Rattle.typing.proofs.Good.{MappedGood, mapped_good, BothGood, both_good, BesideGood, beside_good, both_true, each_passes, each_counts}
+use Rattle.typing_uses.proofs.Good.{MappedGood, mapped_good, BothGood, both_good, both_true, each_passes, each_counts}
+use Rattle.typing_names.proofs.GoodParts.{BesideGood, beside_good, ActionGood, action_good}
 use Rattle.typing.proofs.NumberLaws.{Fits, named_within, condition_within, effect_within, sighted_most, sighted_least}
 use Rattle.typing_names.proofs.TypeNameLaws.{number_within}
 use Rattle.typing_names.proofs.DomainParts.{parts_beside, assembled, names-assembled}
@@ -80,7 +81,7 @@ params_within types count some few params made is =
     let h : BesideGood (declared_again [] (names_of params)) (each (map (parameter_named types) params)) made = beside_good (declared_again [] (names_of params)) (each (map (parameter_named types) params)) made is in
     each_passes (parameter_named types) (are_below count) (param_within types count some few) params made h.part_is
 
-params_count : (types : List (List ℕ)) (params : List Typed) (made : List (List ℕ)) → parameters_named types params ≡ good made → length made ≡ length params
+pub params_count : (types : List (List ℕ)) (params : List Typed) (made : List (List ℕ)) → parameters_named types params ≡ good made → length made ≡ length params
 params_count types params made is =
     let h : BesideGood (declared_again [] (names_of params)) (each (map (parameter_named types) params)) made = beside_good (declared_again [] (names_of params)) (each (map (parameter_named types) params)) made is in
     each_counts (parameter_named types) params made h.part_is
@@ -106,7 +107,7 @@ distinct_most : (names : List (List ℕ)) → length (distinct names) ≤ length
 distinct_most names = omega (arith, sighted_most [] names)
 
 -- inside an action
-fits_inside : (scope : Scope) (counts : Counts) (n m : ℕ) (params : List Typed) → Fits scope counts n → m ≡ length params → Fits (within scope params) counts m
+pub fits_inside : (scope : Scope) (counts : Counts) (n m : ℕ) (params : List Typed) → Fits scope counts n → m ≡ length params → Fits (within scope params) counts m
 fits_inside scope counts n m params fits count_is = record {
   types = fits.types;
   objects = fits.objects;
@@ -114,27 +115,6 @@ fits_inside scope counts n m params fits count_is = record {
   funcs = fits.funcs;
   params = omega (arith, distinct_most (texts (names_of params)), typed_spots params);
 }
-
--- an action's parts
-record ActionGood (scope : Scope) (a : ActionAst) (x : Action) : Type 0 where
-  pub params : parameters_named scope.types a.params ≡ good x.params
-  pub conds : conditions_named (within scope a.params) a.conds ≡ good x.conds
-  pub effs : effects_named (within scope a.params) a.effs ≡ good x.effs
-
-action_good : (scope : Scope) (a : ActionAst) (x : Action) → action_named scope a ≡ good x → ActionGood scope a x
-action_good scope a x made =
-    let h : BothGood apply (both apply (mapped (action_with a.name.text) (parameters_named scope.types a.params)) (conditions_named (within scope a.params) a.conds)) (effects_named (within scope a.params) a.effs) x =
-    both_good apply (both apply (mapped (action_with a.name.text) (parameters_named scope.types a.params)) (conditions_named (within scope a.params) a.conds)) (effects_named (within scope a.params) a.effs) x made in
-    let k : BothGood apply (mapped (action_with a.name.text) (parameters_named scope.types a.params)) (conditions_named (within scope a.params) a.conds) h.left =
-    both_good apply (mapped (action_with a.name.text) (parameters_named scope.types a.params)) (conditions_named (within scope a.params) a.conds) h.left h.left_is in
-    let l : MappedGood (action_with a.name.text) (parameters_named scope.types a.params) k.left = mapped_good (action_with a.name.text) (parameters_named scope.types a.params) k.left k.left_is in
-    let whole : action_with a.name.text l.part k.right h.right ≡ x =
-    ap (λ (f : List Cond → List Effect → Action). f k.right h.right) l.made ∙ ap (λ (f : List Effect → Action). f h.right) k.made ∙ h.made in
-    record {
-      params = l.part_is ∙ ap (λ (y : Action). good y.params) whole;
-      conds = k.right_is ∙ ap (λ (y : Action). good y.conds) whole;
-      effs = h.right_is ∙ ap (λ (y : Action). good y.effs) whole;
-    }
 
 action_within : (scope : Scope) (counts : Counts) (n : ℕ) → 0 < length scope.types → Fits scope counts n → (a : ActionAst) (x : Action) → action_named scope a ≡ good x → is_action counts x ≡ true
 action_within scope counts n some fits a x made =
@@ -148,14 +128,14 @@ action_within scope counts n some fits a x made =
 
 -- ---- a domain's parts
 
-record DomainGood (d : DomainAst) (parts : DomainParts) : Type 0 where
+pub record DomainGood (d : DomainAst) (parts : DomainParts) : Type 0 where
   pub types : parts.types ≡ types_in d.types
   pub objects : objects_named (domain_scope d).types d.constants ≡ good parts.objects
   pub preds : signatures_named (domain_scope d).types d.preds ≡ good parts.preds
   pub funcs : signatures_named (domain_scope d).types d.funcs ≡ good parts.funcs
   pub actions : actions_named (domain_scope d) d.actions ≡ good parts.actions
 
-domain_good : (d : DomainAst) (parts : DomainParts) → domain_names d ≡ good parts → DomainGood d parts
+pub domain_good : (d : DomainAst) (parts : DomainParts) → domain_names d ≡ good parts → DomainGood d parts
 domain_good d parts made =
     let scope : Scope = domain_scope d in
     let m : MappedGood (assembled (types_in d.types)) (beside (domain_again d) (parts_beside (domain_scope d) d)) parts =
@@ -188,11 +168,11 @@ types_count d parts h = sym (ap length h.types ∙ length-map (type_names d.type
 heads_spots : (heads : List Head) → length (texts (heads_of heads)) ≡ length heads
 heads_spots heads = spots_of (heads_of heads) ∙ length-map heads (λ (h : Head). h.name)
 
-abbrev counts_with : DomainParts → ℕ → Counts
+abbrev pub counts_with : DomainParts → ℕ → Counts
 counts_with parts objects = record { types = length parts.types; objects = objects; preds = length parts.preds; funcs = length parts.funcs }
 
 -- with so many objects in all
-fits_domain : (d : DomainAst) (parts : DomainParts) (objects : ℕ) → DomainGood d parts → length parts.objects ≤ objects → Fits (domain_scope d) (counts_with parts objects) 0
+pub fits_domain : (d : DomainAst) (parts : DomainParts) (objects : ℕ) → DomainGood d parts → length parts.objects ≤ objects → Fits (domain_scope d) (counts_with parts objects) 0
 fits_domain d parts objects h more = record {
   types = omega (arith, types_count d parts h);
   objects = omega (arith, distinct_most (texts (names_of d.constants)), typed_spots d.constants, each_counts (object_named (domain_scope d).types) d.constants parts.objects h.objects);
@@ -266,12 +246,12 @@ domain_numbered d parts made =
 
 -- ---- a problem's parts
 
-record ProblemGood (d : DomainAst) (p : ProblemAst) (more : ProblemParts) : Type 0 where
+pub record ProblemGood (d : DomainAst) (p : ProblemAst) (more : ProblemParts) : Type 0 where
   pub objects : objects_named (problem_scope d p).types p.objects ≡ good more.objects
   pub items : each (map (item_named (problem_scope d p)) p.init) ≡ good more.items
   pub goal : conditions_named (problem_scope d p) p.goal ≡ good more.goal
 
-problem_good : (d : DomainAst) (p : ProblemAst) (more : ProblemParts) → problem_names d p ≡ good more → ProblemGood d p more
+pub problem_good : (d : DomainAst) (p : ProblemAst) (more : ProblemParts) → problem_names d p ≡ good more → ProblemGood d p more
 problem_good d p more made =
     let m : MappedGood problem_assembled (beside (problem_again d p) (problem_beside (problem_scope d p) p)) more =
     mapped_good problem_assembled (beside (problem_again d p) (problem_beside (problem_scope d p) p)) more (sym (problem_names-assembled d p) ∙ made) in
@@ -288,10 +268,10 @@ problem_good d p more made =
       goal = h.right_is ∙ ap (λ (x : ProblemParts). good x.goal) whole;
     }
 
-abbrev all_objects : DomainParts → ProblemParts → ℕ
+abbrev pub all_objects : DomainParts → ProblemParts → ℕ
 all_objects parts more = length (parts.objects ++ more.objects)
 
-fits_problem : (d : DomainAst) (parts : DomainParts) (p : ProblemAst) (more : ProblemParts) → DomainGood d parts → ProblemGood d p more → Fits (problem_scope d p) (counts_with parts (all_objects parts more)) 0
+pub fits_problem : (d : DomainAst) (parts : DomainParts) (p : ProblemAst) (more : ProblemParts) → DomainGood d parts → ProblemGood d p more → Fits (problem_scope d p) (counts_with parts (all_objects parts more)) 0
 fits_problem d parts p more h k =
     let fits : Fits (domain_scope d) (counts_with parts (length parts.objects)) 0 = fits_domain d parts (length parts.objects) h (omega arith) in
     record {

@@ -20,25 +20,27 @@ use Rattle.pddl_problem.specs.declared.ast.ProblemAst.{ProblemAst}
 use Rattle.pddl_task.specs.declared.parts.TaskParts.{TaskParts}
 use Rattle.pddl_task.specs.declared.declared.Object.{Object}
 use Rattle.pddl_task.specs.Task.{parents, names_of}
-use Rattle.pddl_task.specs.Numbers.{IsNumbered}
+use Rattle.pddl_task.specs.Numbers.{IsCountable}
+use Rattle.pddl_task.specs.WellFormed.{IsWellFormed}
 use Rattle.typing_names.specs.declared.domain.DomainNames.{DomainNames}
 use Rattle.typing_names.specs.declared.problem.ProblemNames.{ProblemNames}
 use Rattle.typing_uses.specs.Scope.{Scope}
 use Rattle.typing_names.specs.Tables.{scope_in, parts_of, problem_parts_of}
-use Rattle.typing.specs.Resolved.{IsResolved, AreResolved, declared_in}
+use Rattle.typing.specs.Resolved.{IsResolved, AreResolved, AreFaultless, declared_in}
 use Rattle.typing_names.specs.Faults.{tested}
 use Rattle.pddl_task.specs.declared.action.Action.{Action}
-use Rattle.typing.specs.Known.{AreTyped, have_types, domain_type_faults}
+use Rattle.typing_types.specs.Known.{AreTyped, have_types, domain_type_faults}
 use Rattle.typing_names.specs.declared.item.Item.{Item as Counted}
 use Rattle.typing_names.specs.Items.{items_of, are_counted}
 use Rattle.pddl_form.proofs.Concluding.{has_outcome}
-use Rattle.typing.proofs.TypeLaws.{domain_types-is}
-use Rattle.typing.proofs.GivenLaws.{problem_types-is}
-use Rattle.typing.proofs.Numbered.{domain_numbered, problem_numbered, task_numbered}
+use Rattle.typing_types.proofs.TypeLaws.{domain_types-is}
+use Rattle.typing_types.proofs.GivenLaws.{problem_types-is}
+use Rattle.typing.proofs.Numbered.{domain_numbered, problem_numbered}
+use Rattle.typing.proofs.WellFormedLaws.{none_found, task_well_formed}
 use Rattle.typing_names.specs.Domain.{DomainParts, domain_names, domain_scope}
 use Rattle.typing_names.specs.Problem.{ProblemParts, problem_names, problem_scope}
-use Rattle.typing.specs.Types.{Declared, domain_types, problem_types, domain_declared, problem_declared, problem_faults}
-use Rattle.typing_linear.specs.Linear.{bent_domain, bent_goal}
+use Rattle.typing_types.specs.Types.{Declared, domain_types, problem_types, domain_declared, problem_declared, problem_faults}
+use Rattle.typing_linear.specs.Linear.{domain_nonlinearities, goal_nonlinearities}
 use Rattle.typing.specs.Link.{task_of, first_among, first_fault, passed, link_of, linear_task, problem_link, LinkRefuses, Links}
 
 -- ---- a pass that makes something, seen as what the definition makes
@@ -134,8 +136,12 @@ task_names d p n m parts names is same said =
 pub task_above : (d : DomainAst) (p : ProblemAst) (n : DomainNames) (m : ProblemNames) (parts : TaskParts) (above : List ℕ) → AreResolved d p n m → parts ≡ task_of (parts_of n) (problem_parts_of m) → above ≡ n.hierarchy → above ≡ parents parts.types
 task_above d p n m parts above is same said = said ∙ is.hierarchy ∙ ap (λ (t : TaskParts). parents t.types) (sym same)
 
-pub task_numbers : (d : DomainAst) (p : ProblemAst) (n : DomainNames) (m : ProblemNames) (parts : TaskParts) → AreResolved d p n m → parts ≡ task_of (parts_of n) (problem_parts_of m) → IsNumbered parts
-task_numbers d p n m parts is same = subst IsNumbered (sym same) (task_numbered d (parts_of n) p (problem_parts_of m) is.domain is.problem)
+pub task_is_well_formed : (d : DomainAst) (p : ProblemAst) (n : DomainNames) (m : ProblemNames) (parts : TaskParts) → AreResolved d p n m → AreFaultless d p n m → parts ≡ task_of (parts_of n) (problem_parts_of m) → IsCountable parts → IsWellFormed parts
+task_is_well_formed d p n m parts is free same few =
+    subst IsWellFormed (sym same)
+    (task_well_formed d (parts_of n) p (problem_parts_of m) is.grammar is.domain is.problem (none_found (domain_types d (parts_of n)) free.domain_types)
+    (none_found (problem_types d (parts_of n) p (problem_parts_of m)) free.problem_types) (none_found (domain_nonlinearities d.actions) free.domain_linear)
+    (none_found (goal_nonlinearities d.actions p.goal) free.goal_linear) (subst IsCountable same few))
 
 -- ---- a pass that tests
 
@@ -158,8 +164,8 @@ test_passes file fs old first r none is same = test_answers file fs first r (is 
 pub least_at : {fs gs : List Fault} (old : Option Fault) → fs ≡ gs → least old fs ≡ least old gs
 least_at old same = ap (least old) same
 
-pub goal_faults_are : (actions others : List ActionAst) (goal said : List CondAst) → actions ≡ others → said ≡ goal → bent_goal actions said ≡ bent_goal others goal
-goal_faults_are actions others goal said same is = ap (λ (a : List ActionAst). bent_goal a said) same ∙ ap (bent_goal others) is
+pub goal_faults_are : (actions others : List ActionAst) (goal said : List CondAst) → actions ≡ others → said ≡ goal → goal_nonlinearities actions said ≡ goal_nonlinearities others goal
+goal_faults_are actions others goal said same is = ap (λ (a : List ActionAst). goal_nonlinearities a said) same ∙ ap (goal_nonlinearities others) is
 
 -- ---- linking
 
@@ -206,25 +212,25 @@ module _ (d : DomainAst) (p : ProblemAst) (parts : DomainParts) (has : domain_na
         linked_linear : link_of d p ≡ linear_task d parts p more
         linked_linear = linked_problem ∙ ap (λ (j : Judged (Unit {0})). passed source.Problem j (λ _. linear_task d parts p more)) fits
 
-        pub domain_linearity_refused : (e : TextRefusal) → RefusesBy source.Domain (tested (bent_domain d.actions)) e → Links d p (Err e)
+        pub domain_linearity_refused : (e : TextRefusal) → RefusesBy source.Domain (tested (domain_nonlinearities d.actions)) e → Links d p (Err e)
         domain_linearity_refused e h =
             subst (λ (r : Result TaskParts TextFault). LinkRefuses r e) (sym linked_linear)
-            (refused source.Domain (tested (bent_domain d.actions)) (λ _. passed source.Problem (tested (bent_goal d.actions p.goal)) (λ _. Ok (task_of parts more))) e h)
+            (refused source.Domain (tested (domain_nonlinearities d.actions)) (λ _. passed source.Problem (tested (goal_nonlinearities d.actions p.goal)) (λ _. Ok (task_of parts more))) e h)
 
-        module _ (straight : tested (bent_domain d.actions) ≡ good tt) where
-          linked_goal : link_of d p ≡ passed source.Problem (tested (bent_goal d.actions p.goal)) (λ _. Ok (task_of parts more))
-          linked_goal = linked_linear ∙ ap (λ (j : Judged (Unit {0})). passed source.Domain j (λ _. passed source.Problem (tested (bent_goal d.actions p.goal)) (λ _. Ok (task_of parts more)))) straight
+        module _ (linear : tested (domain_nonlinearities d.actions) ≡ good tt) where
+          linked_goal : link_of d p ≡ passed source.Problem (tested (goal_nonlinearities d.actions p.goal)) (λ _. Ok (task_of parts more))
+          linked_goal = linked_linear ∙ ap (λ (j : Judged (Unit {0})). passed source.Domain j (λ _. passed source.Problem (tested (goal_nonlinearities d.actions p.goal)) (λ _. Ok (task_of parts more)))) linear
 
-          pub goal_linearity_refused : (e : TextRefusal) → RefusesBy source.Problem (tested (bent_goal d.actions p.goal)) e → Links d p (Err e)
+          pub goal_linearity_refused : (e : TextRefusal) → RefusesBy source.Problem (tested (goal_nonlinearities d.actions p.goal)) e → Links d p (Err e)
           goal_linearity_refused e h =
               subst (λ (r : Result TaskParts TextFault). LinkRefuses r e) (sym linked_goal)
-              (refused source.Problem (tested (bent_goal d.actions p.goal)) (λ _. Ok (task_of parts more)) e h)
+              (refused source.Problem (tested (goal_nonlinearities d.actions p.goal)) (λ _. Ok (task_of parts more)) e h)
 
-          pub linked : tested (bent_goal d.actions p.goal) ≡ good tt → link_of d p ≡ Ok (task_of parts more)
+          pub linked : tested (goal_nonlinearities d.actions p.goal) ≡ good tt → link_of d p ≡ Ok (task_of parts more)
           linked last = linked_goal ∙ ap (λ (j : Judged (Unit {0})). passed source.Problem j (λ _. Ok (task_of parts more))) last
 
 pub task_linked : (d : DomainAst) (p : ProblemAst) (n : DomainNames) (m : ProblemNames) → AreResolved d p n m → tested (domain_types d (parts_of n)) ≡ good tt → tested (problem_types d (parts_of n) p (problem_parts_of m)) ≡ good tt
-    → tested (bent_domain d.actions) ≡ good tt → tested (bent_goal d.actions p.goal) ≡ good tt → (r : Result TaskParts TextRefusal)
+    → tested (domain_nonlinearities d.actions) ≡ good tt → tested (goal_nonlinearities d.actions p.goal) ≡ good tt → (r : Result TaskParts TextRefusal)
     → IfOk r (λ t. t ≡ task_of (parts_of n) (problem_parts_of m)) → IfErr r (λ e. e ≡ refusal.Memory) → Links d p r
-task_linked d p n m is typed fits straight last (Ok t) made refused = linked d p (parts_of n) is.domain typed (problem_parts_of m) is.problem fits straight last ∙ ap Ok (sym made)
-task_linked d p n m is typed fits straight last (Err e) made refused = subst (λ (x : TextRefusal). LinkRefuses (link_of d p) x) (sym refused) tt
+task_linked d p n m is typed fits linear last (Ok t) made refused = linked d p (parts_of n) is.domain typed (problem_parts_of m) is.problem fits linear last ∙ ap Ok (sym made)
+task_linked d p n m is typed fits linear last (Err e) made refused = subst (λ (x : TextRefusal). LinkRefuses (link_of d p) x) (sym refused) tt

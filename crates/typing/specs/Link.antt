@@ -16,8 +16,8 @@ use Rattle.pddl_task.specs.declared.parts.TaskParts.{TaskParts}
 use Rattle.typing_names.specs.Faults.{tested}
 use Rattle.typing_names.specs.Domain.{DomainParts, domain_names}
 use Rattle.typing_names.specs.Problem.{ProblemParts, problem_names, facts_in, values_in}
-use Rattle.typing.specs.Types.{domain_types, problem_types}
-use Rattle.typing_linear.specs.Linear.{bent_domain, bent_goal}
+use Rattle.typing_types.specs.Types.{domain_types, problem_types}
+use Rattle.typing_linear.specs.Linear.{domain_nonlinearities, goal_nonlinearities}
 
 abbrev pub task_of : DomainParts → ProblemParts → TaskParts
 task_of d p = record {
@@ -46,8 +46,8 @@ passed file (bad f more) next = Err (text_fault file (first_fault f more))
 
 abbrev pub linear_task : DomainAst → DomainParts → ProblemAst → ProblemParts → Result TaskParts TextFault
 linear_task d parts p more =
-    passed source.Domain (tested (bent_domain d.actions)) (λ _.
-    passed source.Problem (tested (bent_goal d.actions p.goal)) (λ _. Ok (task_of parts more)))
+    passed source.Domain (tested (domain_nonlinearities d.actions)) (λ _.
+    passed source.Problem (tested (goal_nonlinearities d.actions p.goal)) (λ _. Ok (task_of parts more)))
 
 abbrev pub problem_link : DomainAst → DomainParts → ProblemAst → Result TaskParts TextFault
 problem_link d parts p =

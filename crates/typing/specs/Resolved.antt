@@ -1,8 +1,9 @@
 -- What the passes over names hand on: the parts, the tables of their names, and the types above each type. Only private
 -- functions' clauses cite these words.
-use Rattle.std.specs.Prelude.{◌≡◌, List, [], ◌++◌}
+use Rattle.std.specs.Prelude.{◌≡◌, List, [], ◌++◌, IsTrue}
 use Rattle.pddl_domain.specs.declared.domain.DomainAst.{DomainAst}
 use Rattle.pddl_problem.specs.declared.ast.ProblemAst.{ProblemAst}
+use Rattle.pddl_problem.specs.Grammar.{is_problem}
 use Rattle.pddl_form.specs.Judged.{good}
 use Rattle.pddl_task.specs.declared.declared.Object.{Object}
 use Rattle.pddl_task.specs.Task.{parents}
@@ -10,7 +11,9 @@ use Rattle.typing_names.specs.declared.domain.DomainNames.{DomainNames}
 use Rattle.typing_names.specs.declared.problem.ProblemNames.{ProblemNames}
 use Rattle.typing_names.specs.Domain.{domain_names, domain_scope}
 use Rattle.typing_names.specs.Problem.{problem_names, problem_scope}
-use Rattle.typing.specs.Types.{Declared}
+use Rattle.typing_names.specs.Faults.{tested}
+use Rattle.typing_linear.specs.Linear.{domain_nonlinearities, goal_nonlinearities}
+use Rattle.typing_types.specs.Types.{Declared, domain_types, problem_types}
 use Rattle.typing_names.specs.Tables.{scope_in, parts_of, problem_parts_of}
 
 -- the names of a domain
@@ -19,12 +22,20 @@ pub record IsResolved (d : DomainAst) (made : DomainNames) : Type 0 where
   pub tables : scope_in made.tables ≡ domain_scope d
   pub hierarchy : made.hierarchy ≡ parents made.types
 
--- and those of a problem, whose objects are in the tables too
+-- and those of a problem of the grammar, whose objects are in the tables too
 pub record AreResolved (d : DomainAst) (p : ProblemAst) (made : DomainNames) (more : ProblemNames) : Type 0 where
+  pub grammar : IsTrue (is_problem p)
   pub domain : domain_names d ≡ good (parts_of made)
   pub problem : problem_names d p ≡ good (problem_parts_of more)
   pub tables : scope_in made.tables ≡ problem_scope d p
   pub hierarchy : made.hierarchy ≡ parents made.types
+
+-- and the passes over types and over linearity have found no fault
+pub record AreFaultless (d : DomainAst) (p : ProblemAst) (made : DomainNames) (more : ProblemNames) : Type 0 where
+  pub domain_types : tested (domain_types d (parts_of made)) ≡ good tt
+  pub problem_types : tested (problem_types d (parts_of made) p (problem_parts_of more)) ≡ good tt
+  pub domain_linear : tested (domain_nonlinearities d.actions) ≡ good tt
+  pub goal_linear : tested (goal_nonlinearities d.actions p.goal) ≡ good tt
 
 -- what the passes over types know by the names of a domain, and the objects of a problem
 abbrev pub declared_in : DomainNames → List Object → Declared

@@ -1,11 +1,8 @@
 //! The task of two texts: their names are resolved, and then their types and the linearity of their expressions are
-//! judged. Begin with `link`. The pass over linearity stands below, in `typing_linear`.
+//! judged. Begin with `link`. The passes over types and over linearity stand below, in `typing_types` and `typing_linear`.
 #![tactic(auto)]
 
-mod fit;
-mod given;
 mod linking;
 mod making;
-mod types;
 
 pub use linking::link;

@@ -1,23 +1,22 @@
 //! The task that a written domain and problem come to. Begin with `link`: one pass after another, the first that finds a
 //! fault gives the answer.
-ghost use Rattle.std.specs.Prelude.{◌≡◌, [], IfErr, IfOk};
+ghost use Rattle.std.specs.Prelude.{◌≡◌, [], IfErr, IfOk, IsTrue};
 ghost use Rattle.sexpr.specs.declared.fault.Source.TheVariants as source;
 ghost use Rattle.pddl_form.specs.Concluded.{Answers, RefusesBy};
 ghost use Rattle.pddl_form.specs.Judged.{good};
+ghost use Rattle.pddl_domain.specs.Grammar.{is_domain};
+ghost use Rattle.pddl_problem.specs.Grammar.{is_problem};
 ghost use Rattle.typing_names.specs.Domain.{domain_names};
 ghost use Rattle.typing_names.specs.Problem.{problem_names};
-ghost use Rattle.typing.specs.Types.{domain_types, problem_types};
-ghost use Rattle.typing_linear.specs.Linear.{bent_domain, bent_goal};
+ghost use Rattle.typing_types.specs.Types.{domain_types, problem_types};
+ghost use Rattle.typing_linear.specs.Linear.{domain_nonlinearities, goal_nonlinearities};
 ghost use Rattle.typing_names.specs.Faults.{tested};
 ghost use Rattle.typing.specs.Link.{Links};
 ghost use Rattle.typing_names.specs.Tables.{parts_of, problem_parts_of};
-ghost use Rattle.typing.specs.Known.{declared_of};
+ghost use Rattle.typing_types.specs.Known.{declared_of};
 ghost use Rattle.typing.specs.Resolved.{IsResolved, AreResolved, declared_in};
 
-use crate::fit::Known;
-use crate::given::judge_problem_types;
 use crate::making::make_task;
-use crate::types::judge_domain_types;
 use name_table::NameTable;
 use pddl_domain::DomainAst;
 use pddl_form::{FirstFault, conclude};
@@ -27,10 +26,12 @@ use sexpr::{Source, TextRefusal};
 use std::alloc::Global;
 use typing_linear::{Changing, judge_domain_linearity, judge_goal_linearity};
 use typing_names::{DomainNames, ProblemNames, resolve_domain, resolve_problem};
+use typing_types::{Known, judge_domain_types, judge_problem_types};
 use typing_uses::Names;
 
 /// The pass over the domain's names.
 fn pass_domain_names(alloc: Global, domain: &DomainAst) -> Result<DomainNames, TextRefusal>
+    requires { IsTrue (is_domain domain.now) }
     ensures made { IfOk result (λ n. IsResolved domain.now n) }
     ensures refused { IfErr result (RefusesBy source.Domain (domain_names domain.now)) }
 {
@@ -84,7 +85,8 @@ fn pass_problem_names(
     problem: &ProblemAst,
     made: DomainNames,
 ) -> Result<(DomainNames, ProblemNames), TextRefusal>
-    requires { IsResolved domain.now made }
+    requires resolved { IsResolved domain.now made }
+    requires grammar { IsTrue (is_problem problem.now) }
     ensures made { IfOk result (λ n. AreResolved domain.now problem.now n.0 n.1) }
     ensures parts { IfOk result (λ n. parts_of n.0 ≡ parts_of made) }
     ensures refused { IfErr result (RefusesBy source.Problem (problem_names domain.now problem.now)) }
@@ -122,7 +124,7 @@ fn pass_domain_linearity(
     changing: &Changing,
 ) -> Result<(), TextRefusal>
     requires { changing.now ≡ domain.now.actions }
-    ensures { Answers source.Domain (tested (bent_domain domain.now.actions)) result }
+    ensures { Answers source.Domain (tested (domain_nonlinearities domain.now.actions)) result }
 {
     let mut faults = FirstFault::new();
     judge_domain_linearity(alloc, changing, &mut faults);
@@ -136,7 +138,7 @@ fn pass_goal_linearity(
     changing: &Changing,
 ) -> Result<(), TextRefusal>
     requires { changing.now ≡ domain.now.actions }
-    ensures { Answers source.Problem (tested (bent_goal domain.now.actions problem.now.goal)) result }
+    ensures { Answers source.Problem (tested (goal_nonlinearities domain.now.actions problem.now.goal)) result }
 {
     let mut faults = FirstFault::new();
     judge_goal_linearity(alloc, changing, problem.goal.as_slice(), &mut faults);
@@ -155,7 +157,7 @@ fn link_goal(
     requires resolved { AreResolved domain.now problem.now made more }
     requires typed { tested (domain_types domain.now (parts_of made)) ≡ good tt }
     requires fits { tested (problem_types domain.now (parts_of made) problem.now (problem_parts_of more)) ≡ good tt }
-    requires straight { tested (bent_domain domain.now.actions) ≡ good tt }
+    requires linear { tested (domain_nonlinearities domain.now.actions) ≡ good tt }
     requires changing { changing.now ≡ domain.now.actions }
     ensures { Links domain.now problem.now result }
 {
@@ -214,6 +216,7 @@ fn link_types(
     made: DomainNames,
 ) -> Result<Task, TextRefusal>
     requires resolved { IsResolved domain.now made }
+    requires grammar { IsTrue (is_problem problem.now) }
     requires typed { tested (domain_types domain.now (parts_of made)) ≡ good tt }
     ensures { Links domain.now problem.now result }
 {
@@ -230,7 +233,8 @@ fn link_names(
     problem: &ProblemAst,
     made: DomainNames,
 ) -> Result<Task, TextRefusal>
-    requires { IsResolved domain.now made }
+    requires resolved { IsResolved domain.now made }
+    requires grammar { IsTrue (is_problem problem.now) }
     ensures { Links domain.now problem.now result }
 {
     match pass_domain_types(alloc, domain, &made) {
@@ -239,10 +243,13 @@ fn link_names(
     }
 }
 
-/// Links a domain and a problem to their task, or answers the first fault.
+/// Links a domain and a problem to their task, or answers the first fault. They are of the grammar, as all are that
+/// `read_domain` and `read_problem` make.
 ///
 /// More things of a kind than 32 bits count are want of memory.
 pub fn link(alloc: Global, domain: DomainAst, problem: ProblemAst) -> Result<Task, TextRefusal>
+    requires domain { IsTrue (is_domain domain) }
+    requires problem { IsTrue (is_problem problem) }
     ensures { Links domain problem result }
 {
     match pass_domain_names(alloc, &domain) {

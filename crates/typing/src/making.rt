@@ -6,7 +6,7 @@ ghost use Rattle.typing_names.specs.Items.{item_of, items_of};
 ghost use Rattle.typing_names.specs.Problem.{facts_in, values_in};
 ghost use Rattle.typing.specs.Link.{task_of};
 ghost use Rattle.typing_names.specs.Tables.{parts_of, problem_parts_of};
-ghost use Rattle.typing.specs.Resolved.{AreResolved};
+ghost use Rattle.typing.specs.Resolved.{AreFaultless, AreResolved};
 
 use hierarchy::Hierarchy;
 use name_table::NameTable;
@@ -89,6 +89,7 @@ fn is_countable(parts: &TaskParts) -> bool
         && parts.objects.len() <= most
         && parts.preds.len() <= most
         && parts.funcs.len() <= most
+        && parts.actions.len() <= most
 }
 
 /// The facts and the values at the start.
@@ -157,7 +158,8 @@ pub(crate) fn make_task(
     made: DomainNames,
     more: ProblemNames,
 ) -> Result<Task, TextRefusal>
-    requires { AreResolved domain.now problem.now made more }
+    requires resolved { AreResolved domain.now problem.now made more }
+    requires faultless { AreFaultless domain.now problem.now made more }
     ensures made { IfOk result (λ task. task ≡ task_of (parts_of made) (problem_parts_of more)) }
     ensures refused { IfErr result (λ e. e ≡ Memory) }
 {

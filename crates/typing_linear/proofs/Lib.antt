@@ -1,3 +1,4 @@
 pub mod Noted
 pub mod Changed
 pub mod Reading
+pub mod Resolved

@@ -1,2 +1,3 @@
 pub mod Linear
 pub mod Reads
+pub mod Laws

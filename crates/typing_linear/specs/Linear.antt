@@ -36,49 +36,49 @@ abbrev pub reading : Bool → List Fault → Reading
 reading reads faults = record { reads = reads; faults = faults }
 
 -- two factors read
-abbrev pub is_bent_product : List Reading → Bool
-is_bent_product args = nat_le 2 (count_by (λ r. r.reads) args)
+abbrev pub is_nonlinear_product : List Reading → Bool
+is_nonlinear_product args = nat_le 2 (count_by (λ r. r.reads) args)
 
 -- the divisor reads
-abbrev pub is_bent_quotient : List Reading → Bool
-is_bent_quotient [] = false
-is_bent_quotient (dividend ∷ []) = false
-is_bent_quotient (dividend ∷ divisor ∷ more) = divisor.reads
+abbrev pub is_nonlinear_quotient : List Reading → Bool
+is_nonlinear_quotient [] = false
+is_nonlinear_quotient (dividend ∷ []) = false
+is_nonlinear_quotient (dividend ∷ divisor ∷ more) = divisor.reads
 
-abbrev pub is_bent : List ℕ → List Reading → Bool
-is_bent op args = (bytes_eq op (codes "*") && is_bent_product args) || (bytes_eq op (codes "/") && is_bent_quotient args)
+abbrev pub is_nonlinear : List ℕ → List Reading → Bool
+is_nonlinear op args = (bytes_eq op (codes "*") && is_nonlinear_product args) || (bytes_eq op (codes "/") && is_nonlinear_quotient args)
 
 abbrev pub reading_step : List ActionAst → ExprAst-F Reading → Reading
 reading_step actions (ExprAst-F.Num n) = reading false []
 reading_step actions (ExprAst-F.Call name args) = reading (is_changing actions name.text) []
 reading_step actions (ExprAst-F.Op op args) =
-    reading (list_any (λ r. r.reads) args) ((if is_bent op.text args then not_linear op.place ∷ [] else []) ++ flat_map (λ r. r.faults) args)
+    reading (list_any (λ r. r.reads) args) ((if is_nonlinear op.text args then not_linear op.place ∷ [] else []) ++ flat_map (λ r. r.faults) args)
 
 unfoldable pub reading_of : List ActionAst → ExprAst → Reading
 reading_of actions = fold-ExprAst Reading (reading_step actions)
 
 -- ---- conditions and effects
 
-abbrev pub bent_condition : List ActionAst → CondAst → List Fault
-bent_condition actions (cond_ast.Lit pos name args) = []
-bent_condition actions (cond_ast.Same pos left right) = []
-bent_condition actions (cond_ast.Compare rel left right) = (reading_of actions left).faults ++ (reading_of actions right).faults
+abbrev pub condition_nonlinearities : List ActionAst → CondAst → List Fault
+condition_nonlinearities actions (cond_ast.Lit pos name args) = []
+condition_nonlinearities actions (cond_ast.Same pos left right) = []
+condition_nonlinearities actions (cond_ast.Compare rel left right) = (reading_of actions left).faults ++ (reading_of actions right).faults
 
 -- `scale-up` and `scale-down` multiply and divide
 abbrev pub scales : List ℕ → Bool
 scales op = bytes_eq op (codes "scale-up") || bytes_eq op (codes "scale-down")
 
-abbrev pub bent_effect : List ActionAst → EffAst → List Fault
-bent_effect actions (eff_ast.Put pos name args) = []
-bent_effect actions (eff_ast.Change op name args by) =
+abbrev pub effect_nonlinearities : List ActionAst → EffAst → List Fault
+effect_nonlinearities actions (eff_ast.Put pos name args) = []
+effect_nonlinearities actions (eff_ast.Change op name args by) =
     (if scales op.text && (reading_of actions by).reads then not_linear op.place ∷ [] else []) ++ (reading_of actions by).faults
 
-abbrev pub bent_action : List ActionAst → ActionAst → List Fault
-bent_action actions a = flat_map (bent_condition actions) a.conds ++ flat_map (bent_effect actions) a.effs
+abbrev pub action_nonlinearities : List ActionAst → ActionAst → List Fault
+action_nonlinearities actions a = flat_map (condition_nonlinearities actions) a.conds ++ flat_map (effect_nonlinearities actions) a.effs
 
 -- the pass over linearity: of a domain, and then of a problem's goal
-unfoldable pub bent_domain : List ActionAst → List Fault
-bent_domain actions = flat_map (bent_action actions) actions
+unfoldable pub domain_nonlinearities : List ActionAst → List Fault
+domain_nonlinearities actions = flat_map (action_nonlinearities actions) actions
 
-unfoldable pub bent_goal : List ActionAst → List CondAst → List Fault
-bent_goal actions goal = flat_map (bent_condition actions) goal
+unfoldable pub goal_nonlinearities : List ActionAst → List CondAst → List Fault
+goal_nonlinearities actions goal = flat_map (condition_nonlinearities actions) goal

@@ -6,7 +6,7 @@ use Rattle.pddl_form.specs.declared.fault.Fault.{Fault}
 use Rattle.pddl_form.specs.declared.spot.Spot.{Spot}
 use Rattle.pddl_condition.specs.declared.expression.ExprAst.{ExprAst}
 use Rattle.pddl_domain.specs.declared.action.ActionAst.{ActionAst}
-use Rattle.typing_linear.specs.Linear.{Reading, is_bent, is_changing, not_linear, reading_of, scales}
+use Rattle.typing_linear.specs.Linear.{Reading, is_nonlinear, is_changing, not_linear, reading_of, scales}
 
 -- a name is one of some names
 abbrev pub has_name : List (List ℕ) → List ℕ → Bool
@@ -26,7 +26,7 @@ readings_of actions args = map (reading_of actions) args
 
 -- the faults of an operation, of which the operator is given and what the arguments read
 abbrev pub operation_faults : Spot → List Reading → List Fault
-operation_faults op args = (if is_bent op.text args then not_linear op.place ∷ [] else []) ++ flat_map (λ r. r.faults) args
+operation_faults op args = (if is_nonlinear op.text args then not_linear op.place ∷ [] else []) ++ flat_map (λ r. r.faults) args
 
 -- the faults of a change
 abbrev pub change_faults : List ActionAst → Spot → ExprAst → List Fault

@@ -87,7 +87,7 @@ impl<'a> Changing<'a> {
     }
 }
 
-fn note_bent(alloc: Global, place: u32, faults: &mut FirstFault)
+fn note_nonlinear(alloc: Global, place: u32, faults: &mut FirstFault)
     ensures { faults.new ≡ least faults.old (linear.not_linear place ∷ []) }
 {
     note(alloc, 11, place, faults);
@@ -134,7 +134,7 @@ pub fn operators_rise()
 {}
 
 /// Whether an operation with this operator isn't linear.
-fn is_bent(operator: &str, reads: Reads) -> bool
+fn is_nonlinear(operator: &str, reads: Reads) -> bool
     ensures { result ≡ ((bytes_eq operator.now (codes "*") && reads.two) || (bytes_eq operator.now (codes "/") && reads.second)) }
 {
     let table = &OPERATORS;
@@ -170,8 +170,8 @@ fn read_arguments(
     faults: &mut FirstFault,
 ) -> Reads
     ensures any { result.any ≡ list_any (λ r. r.reads) (readings_of changing.now args.now) }
-    ensures two { result.two ≡ linear.is_bent_product (readings_of changing.now args.now) }
-    ensures second { result.second ≡ linear.is_bent_quotient (readings_of changing.now args.now) }
+    ensures two { result.two ≡ linear.is_nonlinear_product (readings_of changing.now args.now) }
+    ensures second { result.second ≡ linear.is_nonlinear_quotient (readings_of changing.now args.now) }
     ensures faults { faults.new ≡ least faults.old (flat_map (λ r. r.faults) (readings_of changing.now args.now)) }
 {
     let mut reads = Reads::none();
@@ -194,8 +194,8 @@ fn read_operation(
     ensures faults { faults.new ≡ least faults.old (operation_faults op.now (readings_of changing.now args.now)) }
 {
     let reads = read_arguments(alloc, changing, args, faults);
-    if is_bent(op.text.as_str(), reads) {
-        note_bent(alloc, op.place, faults);
+    if is_nonlinear(op.text.as_str(), reads) {
+        note_nonlinear(alloc, op.place, faults);
     }
     reads.any
 }
@@ -225,7 +225,7 @@ fn judge_condition(
     condition: &CondAst,
     faults: &mut FirstFault,
 )
-    ensures { faults.new ≡ least faults.old (linear.bent_condition changing.now condition.now) }
+    ensures { faults.new ≡ least faults.old (linear.condition_nonlinearities changing.now condition.now) }
 {
     match condition {
         CondAst::Lit { .. } | CondAst::Same { .. } => {}
@@ -242,7 +242,7 @@ fn judge_conditions(
     conditions: &[CondAst],
     faults: &mut FirstFault,
 )
-    ensures { faults.new ≡ least faults.old (flat_map (linear.bent_condition changing.now) conditions.now) }
+    ensures { faults.new ≡ least faults.old (flat_map (linear.condition_nonlinearities changing.now) conditions.now) }
 {
     for condition in conditions {
         judge_condition(alloc, changing, condition, faults);
@@ -261,12 +261,12 @@ fn judge_change(
 {
     let reads = read_expression(alloc, changing, by, faults);
     if reads && scales(op.text.as_str()) {
-        note_bent(alloc, op.place, faults);
+        note_nonlinear(alloc, op.place, faults);
     }
 }
 
 fn judge_effect(alloc: Global, changing: &Changing<'_>, effect: &EffAst, faults: &mut FirstFault)
-    ensures { faults.new ≡ least faults.old (linear.bent_effect changing.now effect.now) }
+    ensures { faults.new ≡ least faults.old (linear.effect_nonlinearities changing.now effect.now) }
 {
     match effect {
         EffAst::Put { .. } => {}
@@ -280,7 +280,7 @@ fn judge_effects(
     effects: &[EffAst],
     faults: &mut FirstFault,
 )
-    ensures { faults.new ≡ least faults.old (flat_map (linear.bent_effect changing.now) effects.now) }
+    ensures { faults.new ≡ least faults.old (flat_map (linear.effect_nonlinearities changing.now) effects.now) }
 {
     for effect in effects {
         judge_effect(alloc, changing, effect, faults);
@@ -289,7 +289,7 @@ fn judge_effects(
 
 #[tactic(auto, using(crate::proofs::Noted::both_noted))]
 fn judge_action(alloc: Global, changing: &Changing<'_>, action: &ActionAst, faults: &mut FirstFault)
-    ensures { faults.new ≡ least faults.old (linear.bent_action changing.now action.now) }
+    ensures { faults.new ≡ least faults.old (linear.action_nonlinearities changing.now action.now) }
 {
     judge_conditions(alloc, changing, action.conds.as_slice(), faults);
     judge_effects(alloc, changing, action.effs.as_slice(), faults);
@@ -301,7 +301,7 @@ fn judge_actions(
     actions: &[ActionAst],
     faults: &mut FirstFault,
 )
-    ensures { faults.new ≡ least faults.old (flat_map (linear.bent_action changing.now) actions.now) }
+    ensures { faults.new ≡ least faults.old (flat_map (linear.action_nonlinearities changing.now) actions.now) }
 {
     for action in actions {
         judge_action(alloc, changing, action, faults);
@@ -309,22 +309,22 @@ fn judge_actions(
 }
 
 /// The pass over the linearity of a domain with these actions.
-#[tactic(auto, unfolding(crate::specs::Linear::bent_domain))]
+#[tactic(auto, unfolding(crate::specs::Linear::domain_nonlinearities))]
 pub fn judge_domain_linearity(alloc: Global, changing: &Changing<'_>, faults: &mut FirstFault)
-    ensures { faults.new ≡ least faults.old (linear.bent_domain changing.now) }
+    ensures { faults.new ≡ least faults.old (linear.domain_nonlinearities changing.now) }
 {
     judge_actions(alloc, changing, changing.actions, faults);
 }
 
 /// The pass over the linearity of a problem's goal.
-#[tactic(auto, unfolding(crate::specs::Linear::bent_goal))]
+#[tactic(auto, unfolding(crate::specs::Linear::goal_nonlinearities))]
 pub fn judge_goal_linearity(
     alloc: Global,
     changing: &Changing<'_>,
     goal: &[CondAst],
     faults: &mut FirstFault,
 )
-    ensures { faults.new ≡ least faults.old (linear.bent_goal changing.now goal.now) }
+    ensures { faults.new ≡ least faults.old (linear.goal_nonlinearities changing.now goal.now) }
 {
     judge_conditions(alloc, changing, goal, faults);
 }

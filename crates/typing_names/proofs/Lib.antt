@@ -3,3 +3,5 @@ pub mod TypeNameLaws
 pub mod DomainLaws
 pub mod DomainParts
 pub mod ProblemLaws
+pub mod GoodParts
+pub mod GrammarParts

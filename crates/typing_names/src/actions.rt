@@ -1,5 +1,7 @@
 //! Actions with numbers for names. Begin with `resolve_action`: its conditions and effects see its parameters.
-ghost use Rattle.std.specs.Prelude.{map};
+ghost use Rattle.std.specs.Prelude.{◌≡◌, true};
+ghost use Rattle.std.specs.List.{list_all};
+ghost use Rattle.pddl_domain.specs.Grammar.{is_action};
 ghost use Rattle.pddl_form.specs.Judged.{both};
 ghost use Rattle.pddl_form.specs.Parts.{pair};
 ghost use Rattle.pddl_form.specs.Reading.{Reads};
@@ -25,6 +27,7 @@ fn resolve_action_parts(
     action: &ActionAst,
     faults: &mut FirstFault,
 ) -> Result<Option<ActionParts>, AllocError>
+    requires { is_action action.now ≡ true }
     ensures { Reads (both pair (both pair (domain.parameters_named (scope_of names.now).types action.now.params) (conditions_named (domain.within (scope_of names.now) action.now.params) action.now.conds)) (effects_named (domain.within (scope_of names.now) action.now.params) action.now.effs)) faults.old faults.new result }
 {
     let mut table = NameTable::new(alloc);
@@ -53,6 +56,7 @@ fn resolve_action(
     action: &ActionAst,
     faults: &mut FirstFault,
 ) -> Result<Option<Action>, AllocError>
+    requires { is_action action.now ≡ true }
     ensures { Reads (domain.action_named (scope_of names.now) action.now) faults.old faults.new result }
 {
     let Some((front, effs)) = resolve_action_parts(alloc, names, action, faults)? else {
@@ -74,6 +78,7 @@ pub fn resolve_actions(
     actions: &[ActionAst],
     faults: &mut FirstFault,
 ) -> Result<Option<Items<Action>>, AllocError>
+    requires { list_all is_action actions.now ≡ true }
     ensures { Reads (domain.actions_named (scope_of names.now) actions.now) faults.old faults.new result }
 {
     let mut found = Some(Items::new(alloc));

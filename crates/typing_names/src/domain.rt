@@ -1,6 +1,8 @@
 //! The names of a domain: what it declares, with numbers for names. Begin with `resolve_domain`.
-ghost use Rattle.std.specs.Prelude.{◌≡◌, IfOk, IfSome};
+ghost use Rattle.std.specs.Prelude.{◌≡◌, true, IfOk, IfSome, IsTrue};
+ghost use Rattle.std.specs.List.{list_all};
 ghost use Rattle.std.specs.Option.{option_map};
+ghost use Rattle.pddl_domain.specs.Grammar.{is_action, is_domain};
 ghost use Rattle.pddl_form.specs.Judged.{both};
 ghost use Rattle.pddl_form.specs.Parts.{pair};
 ghost use Rattle.pddl_form.specs.Reading.{IsRead, Reads};
@@ -53,6 +55,7 @@ fn resolve_parts(
     d: &DomainAst,
     faults: &mut FirstFault,
 ) -> Result<Option<(DomainFront, Items<Action>)>, AllocError>
+    requires { list_all is_action d.now.actions ≡ true }
     ensures { Reads (both pair (both pair (both pair (domain.objects_named tables.now.types d.now.constants) (domain.signatures_named tables.now.types d.now.preds)) (domain.signatures_named tables.now.types d.now.funcs)) (domain.actions_named (scope_in tables.now) d.now.actions)) faults.old faults.new result }
 {
     let params = NameTable::new(alloc);
@@ -78,6 +81,7 @@ pub fn resolve_domain(
     d: &DomainAst,
     faults: &mut FirstFault,
 ) -> Result<Option<DomainNames>, AllocError>
+    requires { IsTrue (is_domain d.now) }
     ensures names { IfOk result (λ made. IsRead (domain.domain_names d.now) faults.old faults.new (option_map parts_of made)) }
     ensures tables { IfOk result (λ made. IfSome made (λ n. scope_in n.tables ≡ domain.domain_scope d.now)) }
     ensures above { IfOk result (λ made. IfSome made (λ n. n.hierarchy ≡ parents n.types)) }

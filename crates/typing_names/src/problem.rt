@@ -1,7 +1,10 @@
 //! The names of a problem: its objects, its initial state and its goal, with numbers for names. Begin with
 //! `resolve_problem`.
-ghost use Rattle.std.specs.Prelude.{◌≡◌, map, IfOk, OnOk};
+ghost use Rattle.std.specs.Prelude.{◌≡◌, true, map, IfOk, IsTrue, OnOk};
+ghost use Rattle.std.specs.List.{list_all};
 ghost use Rattle.std.specs.Option.{option_map};
+ghost use Rattle.pddl_condition.specs.Grammar.{is_condition};
+ghost use Rattle.pddl_problem.specs.Grammar.{is_problem};
 ghost use Rattle.pddl_form.specs.Judged.{both, each};
 ghost use Rattle.pddl_form.specs.Parts.{pair};
 ghost use Rattle.pddl_form.specs.Reading.{IsRead, Reads};
@@ -148,6 +151,7 @@ fn resolve_parts(
     p: &ProblemAst,
     faults: &mut FirstFault,
 ) -> Result<Option<ProblemFront>, AllocError>
+    requires { list_all is_condition p.now.goal ≡ true }
     ensures { IfOk result (λ made. IsRead (both pair (both pair (objects_named tables.now.types p.now.objects) (each (map (problem.item_named (scope_in tables.now)) p.now.init))) (conditions_named (scope_in tables.now) p.now.goal)) faults.old faults.new (option_map with_items made)) }
 {
     let params = NameTable::new(alloc);
@@ -185,7 +189,8 @@ pub fn resolve_problem(
     p: &ProblemAst,
     faults: &mut FirstFault,
 ) -> Result<Option<ProblemNames>, AllocError>
-    requires { scope_in tables.old ≡ domain_scope d.now }
+    requires tables { scope_in tables.old ≡ domain_scope d.now }
+    requires grammar { IsTrue (is_problem p.now) }
     ensures names { IfOk result (λ made. IsRead (problem.problem_names d.now p.now) faults.old faults.new (option_map problem_parts_of made)) }
     ensures tables { OnOk result (scope_in tables.new ≡ problem.problem_scope d.now p.now) }
 {

@@ -1,4 +1,8 @@
 //! Pairs of texts with their first faults, pairs without a fault, and one whose task is looked at.
+ghost use Rattle.std.specs.Prelude.{IfOk, IsTrue};
+ghost use Rattle.pddl_domain.specs.Grammar.{is_domain};
+ghost use Rattle.pddl_problem.specs.Grammar.{is_problem};
+
 use crate::texts::{
     ACROSS, BELOW, CHANGING, CIRCLES, DOMAIN_TWICE, DOMAIN_TYPES, DOMAIN_UNDECLARED, FORMED, GIVEN,
     LINEAR, LINES, OBJECT_TYPES, OBJECTS, PARTS, PLACED, PLAIN, PROBLEM_NAMES, PROBLEM_TYPES,
@@ -34,13 +38,17 @@ fn unmarked(
     Ok((bytes, place))
 }
 
-fn domain(rt: &impl Abort, alloc: Global, bytes: &[u8]) -> Result<DomainAst, TextRefusal> {
+fn domain(rt: &impl Abort, alloc: Global, bytes: &[u8]) -> Result<DomainAst, TextRefusal>
+    ensures { IfOk result (λ made. IsTrue (is_domain made)) }
+{
     assert!(rt; bytes.len() <= 67108864);
     let tree = read(alloc, Source::Domain, bytes)?;
     read_domain(alloc, &tree)
 }
 
-fn problem(rt: &impl Abort, alloc: Global, bytes: &[u8]) -> Result<ProblemAst, TextRefusal> {
+fn problem(rt: &impl Abort, alloc: Global, bytes: &[u8]) -> Result<ProblemAst, TextRefusal>
+    ensures { IfOk result (λ made. IsTrue (is_problem made)) }
+{
     assert!(rt; bytes.len() <= 67108864);
     let tree = read(alloc, Source::Problem, bytes)?;
     read_problem(alloc, &tree)

@@ -1,7 +1,8 @@
 -- What an expression comes to, how deep operations stand in one another, and calls in two steps.
 use Rattle.std.proofs.Common.{◌≡◌, ℕ, ◌+◌, ◌<◌, ◌≤◌, Bool, suc, zero, List, [], ◌∷◌, map, length, get_or, Option, Some, None, Result, arith, refl, sym, ◌∙◌, ap, subst}
-use Rattle.std.specs.Prelude.{slice_get}
-use Rattle.std.specs.List.{remove}
+use Rattle.std.specs.Prelude.{true, slice_get, ◌&&◌}
+use Rattle.std.specs.List.{remove, list_all}
+use Rattle.std.proofs.lemmas.Bool.{and_parts}
 use Rattle.std.specs.declared.alloc.AllocError.{AllocError}
 use Rattle.rational.specs.Fraction.{Fraction}
 use Rattle.pddl_form.specs.declared.fault.Fault.{Fault}
@@ -12,19 +13,32 @@ use Rattle.pddl_condition.specs.declared.expression.ExprAst.TheOpen.{ExprAst-F}
 use Rattle.pddl_condition.specs.declared.expression.ExprAst.TheFolds.{fold-ExprAst}
 use Rattle.pddl_condition.specs.declared.condition.CondAst.{CondAst}
 use Rattle.pddl_condition.specs.declared.condition.CondAst.TheVariants as cond_ast
-use Rattle.pddl_form.specs.Judged.{Judged, good, bad, mapped, both, each}
+use Rattle.pddl_condition.specs.Grammar.{is_expression, is_condition, is_operation, is_relation}
+use Rattle.pddl_condition.proofs.Grammar.{is_expression-Op}
+use Rattle.pddl_domain.specs.declared.effect.EffAst.{EffAst}
+use Rattle.pddl_domain.specs.declared.effect.EffAst.TheVariants as eff_ast
+use Rattle.pddl_domain.specs.Effect.{changes}
+use Rattle.pddl_domain.specs.Grammar.{is_effect}
+use Rattle.pddl_form.specs.declared.names.Sort.TheVariants as sort
+use Rattle.pddl_form.specs.Grammar.{is_call}
+use Rattle.pddl_form.specs.Names.{is_one_of}
+use Rattle.pddl_form.specs.Judged.{Judged, good, bad, syntax_of, noted, mapped, both, each}
 use Rattle.pddl_form.specs.Parts.{pair}
 use Rattle.pddl_form.specs.Reading.{IsRead, Reads}
 use Rattle.pddl_form.proofs.Depth.{greatest}
 use Rattle.pddl_form.proofs.Loops.{read_good, mapped_none, mapped_some}
 use Rattle.pddl_task.specs.declared.expression.Expr.{Expr}
 use Rattle.pddl_task.specs.declared.expression.Expr.TheVariants as expr
+use Rattle.pddl_task.specs.declared.condition.Rel.{Rel}
+use Rattle.pddl_task.specs.declared.effect.Effect.{Effect}
+use Rattle.pddl_task.specs.declared.effect.NumOp.{NumOp}
 use Rattle.pddl_task.specs.declared.condition.Cond.{Cond}
 use Rattle.pddl_task.specs.declared.condition.Cond.TheVariants as cond
 use Rattle.typing_uses.proofs.Written.{fold-Num, fold-Call, fold-Op}
-use Rattle.typing_uses.specs.Scope.{Scope, named, term_named, terms_named}
+use Rattle.typing_uses.specs.Scope.{Scope, known_as, named, term_named, terms_named}
 use Rattle.pddl_form.specs.Gather.{apply}
-use Rattle.typing_uses.specs.Expressions.{expression_named, expression_step, operation, condition_named}
+use Rattle.pddl_form.specs.Sections.{and_then}
+use Rattle.typing_uses.specs.Expressions.{expression_named, expression_step, operation, operation_named, condition_named, relation, comparison_named, change_operator, change_by, change_named}
 
 -- ---- what an expression comes to
 
@@ -37,7 +51,7 @@ unfolding expression_named
 expression_named-call scope name args =
     fold-Call (Judged Expr) (expression_step scope) name args
 
-pub expression_named-op : (scope : Scope) (op : Spot) (args : List ExprAst) → expression_named scope (ast.Op op args) ≡ mapped (operation op.text) (each (map (expression_named scope) args))
+pub expression_named-op : (scope : Scope) (op : Spot) (args : List ExprAst) → expression_named scope (ast.Op op args) ≡ and_then (each (map (expression_named scope) args)) (operation_named op)
 unfolding expression_named
 expression_named-op scope op args =
     fold-Op (Judged Expr) (expression_step scope) op args
@@ -79,10 +93,93 @@ reads_function scope e name args said old new r is same h =
     subst (λ (j : Judged Expr). Reads j old new r) (ap (λ (spots : List Spot). both expr.Call (named scope.funcs name) (terms_named scope spots)) same ∙ sym (ap (expression_named scope) is ∙ expression_named-call scope name args)) h
 
 pub reads_operation : (scope : Scope) (e : ExprAst) (op : Spot) (args said : List ExprAst) (old new : Option Fault) (r : Result (Option Expr) AllocError)
-    → e ≡ ast.Op op args → said ≡ args → Reads (mapped (operation op.text) (each (map (expression_named scope) said))) old new r → Reads (expression_named scope e) old new r
+    → e ≡ ast.Op op args → said ≡ args → Reads (and_then (each (map (expression_named scope) said)) (operation_named op)) old new r → Reads (expression_named scope e) old new r
 reads_operation scope e op args said old new r is same h =
     subst (λ (j : Judged Expr). Reads j old new r)
-    (ap (λ (exprs : List ExprAst). mapped (operation op.text) (each (map (expression_named scope) exprs))) same ∙ sym (ap (expression_named scope) is ∙ expression_named-op scope op args)) h
+    (ap (λ (exprs : List ExprAst). and_then (each (map (expression_named scope) exprs)) (operation_named op)) same ∙ sym (ap (expression_named scope) is ∙ expression_named-op scope op args)) h
+
+-- ---- an operation, of whose arguments it is known whether they are without a fault
+
+pub operation_faulty : (op : Spot) (j : Judged (List Expr)) (old new : Option Fault) (x : Option (List Expr)) → IsRead j old new x → x ≡ None → IsRead (and_then j (operation_named op)) old new None
+unfolding noted
+operation_faulty op (good args) old new x h is = absurd (cc (h.syntax_is, is))
+operation_faulty op (bad f more) old new x h is = record { syntax_is = refl; first_is = h.first_is }
+
+pub operation_read : (op : Spot) (j : Judged (List Expr)) (old new : Option Fault) (x : Option (List Expr)) (args : List Expr) (e : Expr)
+    → IsRead j old new x → x ≡ Some args → operation op.text args ≡ Some e → IsRead (and_then j (operation_named op)) old new (Some e)
+unfolding noted
+operation_read op (bad f more) old new x args e h is made = absurd (cc (h.syntax_is, is))
+operation_read op (good others) old new x args e h is made =
+    let same : args ≡ others = cc (h.syntax_is, is) in
+    let found : operation op.text others ≡ Some e = ap (operation op.text) (sym same) ∙ made in
+    subst (λ (o : Option Expr). IsRead (known_as op o good) old new (Some e)) (sym found) (record { syntax_is = refl; first_is = h.first_is })
+
+-- as many as there are of the arguments
+pub arguments_count : {X A : Type 0} (form : X → Judged A) (xs : List X) (old new : Option Fault) (x : Option (List A)) (made : List A)
+    → IsRead (each (map form xs)) old new x → x ≡ Some made → length made ≡ length xs
+arguments_count {A = A} form xs old new x made h is = each_count form xs made (sym is ∙ h.syntax_is)
+  where
+    mapped_count : {B : Type 0} (a : B) (j : Judged (List B)) (all : List B) (n : ℕ) → Some all ≡ syntax_of (mapped (λ (l : List B). a ∷ l) j) → ((l : List B) → Some l ≡ syntax_of j → length l ≡ n) → length all ≡ suc n
+    mapped_count a (good l) all n is counts = let same : all ≡ a ∷ l = cc in ap length same ∙ ap suc (counts l refl)
+    mapped_count a (bad f more) all n is counts = absurd (cc is)
+
+    both_count : {B : Type 0} (i : Judged B) (j : Judged (List B)) (all : List B) (n : ℕ) → Some all ≡ syntax_of (both ◌∷◌ i j) → ((l : List B) → Some l ≡ syntax_of j → length l ≡ n) → length all ≡ suc n
+    both_count (good a) j all n is counts = mapped_count a j all n is counts
+    both_count (bad f more) j all n is counts = absurd (cc is)
+
+    each_count : {Y B : Type 0} (g : Y → Judged B) (ys : List Y) (all : List B) → Some all ≡ syntax_of (each (map g ys)) → length all ≡ length ys
+    each_count g [] all is = let none : all ≡ [] = cc in ap length none
+    each_count g (y ∷ ys) all is = both_count (g y) (each (map g ys)) all (length ys) is (each_count g ys)
+
+-- ---- a comparison and a change, of which the relation and the operator are known
+
+pub compared_read : (scope : Scope) (r : Spot) (left right : ExprAst) (known : Rel) (old new : Option Fault) (x : Option Cond)
+    → relation r.text ≡ Some known → IsRead (both (cond.Compare known) (expression_named scope left) (expression_named scope right)) old new x → IsRead (comparison_named scope r left right) old new x
+compared_read scope r left right known old new x is h =
+    subst (λ (o : Option Rel). IsRead (known_as r o (λ k. both (cond.Compare k) (expression_named scope left) (expression_named scope right))) old new x) (sym is) h
+
+pub changed_read : (scope : Scope) (op name : Spot) (args : List Spot) (by : ExprAst) (known : NumOp) (old new : Option Fault) (x : Option Effect)
+    → change_operator op.text ≡ Some known → IsRead (both apply (both (change_by known) (named scope.funcs name) (terms_named scope args)) (expression_named scope by)) old new x
+    → IsRead (change_named scope op name args by) old new x
+changed_read scope op name args by known old new x is h =
+    subst (λ (o : Option NumOp). IsRead (known_as op o (λ k. both apply (both (change_by k) (named scope.funcs name) (terms_named scope args)) (expression_named scope by))) old new x) (sym is) h
+
+-- ---- what the grammar says of parts
+
+pub record ComparisonParts (r : Spot) (a b : ExprAst) : Type 0 where
+  pub relation : is_relation r.text ≡ true
+  pub left : is_expression a ≡ true
+  pub right : is_expression b ≡ true
+
+pub comparison_parts : (c : CondAst) (r : Spot) (left right : ExprAst) → c ≡ cond_ast.Compare r left right → is_condition c ≡ true → ComparisonParts r left right
+comparison_parts c r left right is all =
+    let h = and_parts (is_relation r.text) (is_expression left && is_expression right) (ap is_condition (sym is) ∙ all) in
+    let k = and_parts (is_expression left) (is_expression right) h.1 in
+    record { relation = h.0; left = k.0; right = k.1 }
+
+pub record ChangeParts (op : Spot) (amount : ExprAst) : Type 0 where
+  pub operator : is_one_of changes op.text ≡ true
+  pub by : is_expression amount ≡ true
+
+pub change_parts : (e : EffAst) (op name : Spot) (args : List Spot) (by : ExprAst) → e ≡ eff_ast.Change op name args by → is_effect e ≡ true → ChangeParts op by
+change_parts e op name args by is all =
+    let h = and_parts (is_one_of changes op.text) (is_call sort.Term name args && is_expression by) (ap is_effect (sym is) ∙ all) in
+    record { operator = h.0; by = (and_parts (is_call sort.Term name args) (is_expression by) h.1).1 }
+
+pub record OperationParts (op : Spot) (args : List ExprAst) : Type 0 where
+  pub operation : is_operation op.text (length args) ≡ true
+  pub arguments : list_all is_expression args ≡ true
+
+pub operation_parts : (e : ExprAst) (op : Spot) (args said : List ExprAst) → e ≡ ast.Op op args → said ≡ args → is_expression e ≡ true → OperationParts op said
+operation_parts e op args said is same all =
+    let h = and_parts (is_operation op.text (length args)) (list_all is_expression args) (sym (is_expression-Op op args) ∙ ap is_expression (sym is) ∙ all) in
+    subst (OperationParts op) (sym same) (record { operation = h.0; arguments = h.1 })
+
+-- one of some for which a test holds passes it
+pub one_passes : {A : Type 0} (test : A → Bool) (xs : List A) (i : ℕ) (x : A) → list_all test xs ≡ true → i < length xs → x ≡ get_or xs i x → test x ≡ true
+one_passes test [] i x all within is = absurd (omega arith)
+one_passes test (y ∷ xs) zero x all within is = ap test is ∙ (and_parts (test y) (list_all test xs) all).0
+one_passes test (y ∷ xs) (suc i) x all within is = one_passes test xs i x (and_parts (test y) (list_all test xs) all).1 (omega arith) is
 
 -- ---- the first of some items, taken away
 

@@ -1,3 +1,4 @@
 pub mod Written
 pub mod ExpressionLaws
 pub mod Words
+pub mod Good

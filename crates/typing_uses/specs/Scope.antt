@@ -27,13 +27,14 @@ pub record Scope : Type 0 where
 abbrev pub texts : List Spot → List (List ℕ)
 texts spots = map (λ s. s.text) spots
 
-abbrev pub found_at : ℕ → Option ℕ → Judged ℕ
-found_at place None = bad (unknown place) []
-found_at place (Some n) = good n
+-- what follows from what a word stands for; a word that stands for nothing is unknown
+abbrev pub known_as : {A B : Type 0} → Spot → Option A → (A → Judged B) → Judged B
+known_as spot None next = bad (unknown spot.place) []
+known_as spot (Some a) next = next a
 
 -- the number of a name in use
 unfoldable pub named : List (List ℕ) → Spot → Judged ℕ
-named names spot = found_at spot.place (number_in names spot.text)
+named names spot = known_as spot (number_in names spot.text) good
 
 -- a parameter or an object
 abbrev pub term_named : Scope → Spot → Judged Term

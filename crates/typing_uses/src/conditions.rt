@@ -1,6 +1,8 @@
 //! Conditions with numbers for names. Begin with `resolve_condition`.
-ghost use Rattle.std.specs.Prelude.{◌≡◌, map};
+ghost use Rattle.std.specs.Prelude.{◌≡◌, true, map, Some, is_some};
+ghost use Rattle.std.specs.List.{list_all};
 ghost use Rattle.kw_table.specs.Table.{Rises};
+ghost use Rattle.pddl_condition.specs.Grammar.{is_condition, is_expression, is_relation};
 ghost use Rattle.pddl_form.specs.Judged.{both};
 ghost use Rattle.pddl_form.specs.Parts.{pair};
 ghost use Rattle.pddl_form.specs.Reading.{IsRead, Reads};
@@ -17,8 +19,8 @@ use pddl_task::{Cond, Expr, Rel, Term};
 use sqlite_items::Items;
 use std::alloc::{AllocError, Global};
 
-const RELATIONS: Table<4> = Table {
-    words: ["<", "<=", "=", ">="],
+const RELATIONS: Table<5> = Table {
+    words: ["<", "<=", "=", ">", ">="],
 };
 
 /// The relations stand in byte order.
@@ -26,10 +28,11 @@ pub fn relations_rise()
     ensures { Rises (map (λ w. w.now) RELATIONS.words) }
 {}
 
-/// The relation that a word is; the reader gives no other than these and `>`.
+/// The relation that a word is.
 #[tactic(auto, using(crate::proofs::Words::relation_rows))]
 fn find_relation(text: &str) -> Rel
-    ensures { result ≡ expressions.relation text.now }
+    requires { is_some (expressions.relation text.now) ≡ true }
+    ensures { expressions.relation text.now ≡ Some result }
 {
     let table = &RELATIONS;
     rows! {
@@ -37,8 +40,9 @@ fn find_relation(text: &str) -> Rel
         "<" => Rel::Lt,
         "<=" => Rel::Le,
         "=" => Rel::Eq,
+        ">" => Rel::Gt,
         ">=" => Rel::Ge;
-        else => Rel::Gt
+        else => unreachable!()
     }
 }
 
@@ -95,6 +99,8 @@ fn resolve_sides(
     right: &ExprAst,
     faults: &mut FirstFault,
 ) -> Result<Option<(Expr, Expr)>, AllocError>
+    requires left { is_expression left.now ≡ true }
+    requires right { is_expression right.now ≡ true }
     ensures { Reads (both pair (expressions.expression_named (scope_of names.now) left.now) (expressions.expression_named (scope_of names.now) right.now)) faults.old faults.new result }
 {
     let left = resolve_expression(alloc, names, left, faults)?;
@@ -110,12 +116,15 @@ fn resolve_comparison(
     right: &ExprAst,
     faults: &mut FirstFault,
 ) -> Result<Option<Cond>, AllocError>
-    ensures { Reads (both (Cond.Compare (expressions.relation rel.now.text)) (expressions.expression_named (scope_of names.now) left.now) (expressions.expression_named (scope_of names.now) right.now)) faults.old faults.new result }
+    requires relation { is_relation rel.now.text ≡ true }
+    requires left { is_expression left.now ≡ true }
+    requires right { is_expression right.now ≡ true }
+    ensures { Reads (expressions.comparison_named (scope_of names.now) rel.now left.now right.now) faults.old faults.new result }
 {
+    let rel = find_relation(rel.text.as_str());
     let Some((left, right)) = resolve_sides(alloc, names, left, right, faults)? else {
         return Ok(None);
     };
-    let rel = find_relation(rel.text.as_str());
     Ok(Some(Cond::Compare { rel, left, right }))
 }
 
@@ -126,6 +135,7 @@ pub fn resolve_condition(
     cond: &CondAst,
     faults: &mut FirstFault,
 ) -> Result<Option<Cond>, AllocError>
+    requires { is_condition cond.now ≡ true }
     ensures { Reads (expressions.condition_named (scope_of names.now) cond.now) faults.old faults.new result }
 {
     match cond {
@@ -147,6 +157,7 @@ pub fn resolve_conditions(
     conds: &[CondAst],
     faults: &mut FirstFault,
 ) -> Result<Option<Items<Cond>>, AllocError>
+    requires { list_all is_condition conds.now ≡ true }
     ensures { Reads (expressions.conditions_named (scope_of names.now) conds.now) faults.old faults.new result }
 {
     let mut found = Some(Items::new(alloc));

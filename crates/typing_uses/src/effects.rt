@@ -1,8 +1,12 @@
 //! Effects with numbers for names. Begin with `resolve_effect`.
-ghost use Rattle.std.specs.Prelude.{◌≡◌, ℕ, List, map};
+ghost use Rattle.std.specs.Prelude.{◌≡◌, true, map, Some, is_some};
+ghost use Rattle.std.specs.List.{list_all};
 ghost use Rattle.kw_table.specs.Table.{Rises};
-ghost use Rattle.pddl_form.specs.Gather.{apply, option_both};
+ghost use Rattle.pddl_condition.specs.Grammar.{is_expression};
+ghost use Rattle.pddl_domain.specs.Effect.{changes};
+ghost use Rattle.pddl_domain.specs.Grammar.{is_effect};
 ghost use Rattle.pddl_form.specs.Judged.{both};
+ghost use Rattle.pddl_form.specs.Names.{is_one_of};
 ghost use Rattle.pddl_form.specs.Parts.{pair};
 ghost use Rattle.pddl_form.specs.Reading.{Reads};
 ghost use Rattle.typing_uses.specs.Scope.{named, terms_named};
@@ -19,8 +23,8 @@ use pddl_task::{Effect, Expr, NumOp, Term};
 use sqlite_items::Items;
 use std::alloc::{AllocError, Global};
 
-const CHANGES: Table<4> = Table {
-    words: ["assign", "decrease", "increase", "scale-up"],
+const CHANGES: Table<5> = Table {
+    words: ["assign", "decrease", "increase", "scale-down", "scale-up"],
 };
 
 /// The words of changes stand in byte order.
@@ -28,10 +32,11 @@ pub fn changes_rise()
     ensures { Rises (map (λ w. w.now) CHANGES.words) }
 {}
 
-/// The change that a word is; the reader gives no other than these and `scale-down`.
+/// The change that a word is.
 #[tactic(auto, using(crate::proofs::Words::change_rows))]
 fn find_change(text: &str) -> NumOp
-    ensures { result ≡ expressions.change_operator text.now }
+    requires { is_some (expressions.change_operator text.now) ≡ true }
+    ensures { expressions.change_operator text.now ≡ Some result }
 {
     let table = &CHANGES;
     rows! {
@@ -39,8 +44,9 @@ fn find_change(text: &str) -> NumOp
         "assign" => NumOp::Assign,
         "decrease" => NumOp::Decrease,
         "increase" => NumOp::Increase,
+        "scale-down" => NumOp::ScaleDown,
         "scale-up" => NumOp::ScaleUp;
-        else => NumOp::ScaleDown
+        else => unreachable!()
     }
 }
 
@@ -69,6 +75,7 @@ fn resolve_change_parts(
     by: &ExprAst,
     faults: &mut FirstFault,
 ) -> Result<Option<((u32, Items<Term>), Expr)>, AllocError>
+    requires { is_expression by.now ≡ true }
     ensures { Reads (both pair (both pair (named (scope_of names.now).funcs name.now) (terms_named (scope_of names.now) args.now)) (expressions.expression_named (scope_of names.now) by.now)) faults.old faults.new result }
 {
     let call = resolve_call(alloc, names.funcs, names, name, args, faults)?;
@@ -85,13 +92,15 @@ fn resolve_change(
     by: &ExprAst,
     faults: &mut FirstFault,
 ) -> Result<Option<Effect>, AllocError>
-    ensures { Reads (both apply (both (expressions.change_by (expressions.change_operator op.now.text)) (named (scope_of names.now).funcs name.now) (terms_named (scope_of names.now) args.now)) (expressions.expression_named (scope_of names.now) by.now)) faults.old faults.new result }
+    requires operator { is_one_of changes op.now.text ≡ true }
+    requires by { is_expression by.now ≡ true }
+    ensures { Reads (expressions.change_named (scope_of names.now) op.now name.now args.now by.now) faults.old faults.new result }
 {
+    let op = find_change(op.text.as_str());
     let Some((call, by)) = resolve_change_parts(alloc, names, name, args, by, faults)? else {
         return Ok(None);
     };
     let (func, args) = call;
-    let op = find_change(op.text.as_str());
     Ok(Some(Effect::Change { op, func, args, by }))
 }
 
@@ -102,6 +111,7 @@ pub fn resolve_effect(
     effect: &EffAst,
     faults: &mut FirstFault,
 ) -> Result<Option<Effect>, AllocError>
+    requires { is_effect effect.now ≡ true }
     ensures { Reads (expressions.effect_named (scope_of names.now) effect.now) faults.old faults.new result }
 {
     match effect {
@@ -120,6 +130,7 @@ pub fn resolve_effects(
     effects: &[EffAst],
     faults: &mut FirstFault,
 ) -> Result<Option<Items<Effect>>, AllocError>
+    requires { list_all is_effect effects.now ≡ true }
     ensures { Reads (expressions.effects_named (scope_of names.now) effects.now) faults.old faults.new result }
 {
     let mut found = Some(Items::new(alloc));

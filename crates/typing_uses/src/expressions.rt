@@ -1,10 +1,13 @@
 //! Expressions with numbers for names. Begin with `resolve_expression`, which calls itself on the arguments of an
 //! operation.
-ghost use Rattle.std.specs.Prelude.{◌≡◌, [], ◌∷◌, map, IfOk, MatchOption};
+ghost use Rattle.std.specs.Prelude.{◌≡◌, [], ◌∷◌, true, map, length, Some, is_some, IfOk, MatchOption};
+ghost use Rattle.std.specs.List.{list_all};
 ghost use Rattle.kw_table.specs.Table.{Rises};
-ghost use Rattle.pddl_form.specs.Judged.{both, each, mapped};
+ghost use Rattle.pddl_condition.specs.Grammar.{is_expression, is_operation};
+ghost use Rattle.pddl_form.specs.Judged.{both, each};
 ghost use Rattle.pddl_form.specs.Parts.{pair};
 ghost use Rattle.pddl_form.specs.Reading.{Reads};
+ghost use Rattle.pddl_form.specs.Sections.{and_then};
 ghost use Rattle.typing_uses.specs.Scope.{named, terms_named};
 ghost use Rattle.typing_uses.specs.Names.{scope_of};
 ghost use Rattle.typing_uses.specs.Expressions as expressions;
@@ -44,8 +47,8 @@ enum Operator {
     Over,
 }
 
-const OPERATORS: Table<3> = Table {
-    words: ["*", "-", "/"],
+const OPERATORS: Table<4> = Table {
+    words: ["*", "+", "-", "/"],
 };
 
 /// The operators stand in byte order.
@@ -55,15 +58,17 @@ pub fn operators_rise()
 
 #[tactic(auto, using(crate::proofs::Words::operator_rows))]
 fn find_operator(text: &str) -> Operator
-    ensures { result ≡ operator_of text.now }
+    requires { is_some (operator_of text.now) ≡ true }
+    ensures { operator_of text.now ≡ Some result }
 {
     let table = &OPERATORS;
     rows! {
         table, text.as_bytes();
         "*" => Operator::Times,
+        "+" => Operator::Plus,
         "-" => Operator::Minus,
         "/" => Operator::Over;
-        else => Operator::Plus
+        else => unreachable!()
     }
 }
 
@@ -79,11 +84,12 @@ fn take_first(args: &mut Items<Expr>) -> Option<Expr>
 
 /// `-` with one argument or with two.
 fn minus(alloc: Global, args: Items<Expr>) -> Result<Expr, AllocError>
-    ensures { IfOk result (λ e. e ≡ expressions.minus args) }
+    requires { is_some (expressions.minus args) ≡ true }
+    ensures { IfOk result (λ e. expressions.minus args ≡ Some e) }
 {
     let mut args = args;
     let Some(first) = take_first(&mut args) else {
-        return Ok(Expr::Add(Items::new(alloc)));
+        unreachable!()
     };
     let Some(second) = take_first(&mut args) else {
         return Ok(Expr::Neg(Boxed::new(alloc, first)?));
@@ -95,14 +101,15 @@ fn minus(alloc: Global, args: Items<Expr>) -> Result<Expr, AllocError>
 
 /// `/` with two.
 fn over(alloc: Global, args: Items<Expr>) -> Result<Expr, AllocError>
-    ensures { IfOk result (λ e. e ≡ expressions.over args) }
+    requires { is_some (expressions.over args) ≡ true }
+    ensures { IfOk result (λ e. expressions.over args ≡ Some e) }
 {
     let mut args = args;
     let Some(first) = take_first(&mut args) else {
-        return Ok(Expr::Add(Items::new(alloc)));
+        unreachable!()
     };
     let Some(second) = take_first(&mut args) else {
-        return Ok(first);
+        unreachable!()
     };
     let first = Boxed::new(alloc, first)?;
     let second = Boxed::new(alloc, second)?;
@@ -110,7 +117,8 @@ fn over(alloc: Global, args: Items<Expr>) -> Result<Expr, AllocError>
 }
 
 fn operation(alloc: Global, op: Operator, args: Items<Expr>) -> Result<Expr, AllocError>
-    ensures { IfOk result (λ e. e ≡ operation_by op args) }
+    requires { is_some (operation_by op args) ≡ true }
+    ensures { IfOk result (λ e. operation_by op args ≡ Some e) }
 {
     match op {
         Operator::Plus => Ok(Expr::Add(args)),
@@ -142,6 +150,7 @@ fn resolve_expressions(
     exprs: &[ExprAst],
     faults: &mut FirstFault,
 ) -> Result<Option<Items<Expr>>, AllocError>
+    requires { list_all is_expression exprs.now ≡ true }
     ensures { Reads (each (map (expressions.expression_named (scope_of names.now)) exprs.now)) faults.old faults.new result }
 {
     let mut found = Some(Items::new(alloc));
@@ -160,12 +169,15 @@ fn resolve_operation(
     args: &[ExprAst],
     faults: &mut FirstFault,
 ) -> Result<Option<Expr>, AllocError>
-    ensures { Reads (mapped (expressions.operation op.now.text) (each (map (expressions.expression_named (scope_of names.now)) args.now))) faults.old faults.new result }
+    requires operation { is_operation op.now.text (length args.now) ≡ true }
+    requires arguments { list_all is_expression args.now ≡ true }
+    ensures { Reads (and_then (each (map (expressions.expression_named (scope_of names.now)) args.now)) (expressions.operation_named op.now)) faults.old faults.new result }
 {
     let Some(args) = resolve_expressions(alloc, names, args, faults)? else {
         return Ok(None);
     };
-    let made = operation(alloc, find_operator(op.text.as_str()), args)?;
+    let operator = find_operator(op.text.as_str());
+    let made = operation(alloc, operator, args)?;
     Ok(Some(made))
 }
 
@@ -177,6 +189,7 @@ pub fn resolve_expression(
     expr: &ExprAst,
     faults: &mut FirstFault,
 ) -> Result<Option<Expr>, AllocError>
+    requires { is_expression expr.now ≡ true }
     ensures { Reads (expressions.expression_named (scope_of names.now) expr.now) faults.old faults.new result }
 {
     match expr {

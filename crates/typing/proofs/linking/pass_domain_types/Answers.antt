@@ -1,7 +1,7 @@
 use Rattle.std.proofs.Common.{◌∙◌, ap, length}
 use Rattle.sexpr.specs.declared.fault.Source.TheVariants as source
 use Rattle.typing_names.specs.Tables.{parts_of}
-use Rattle.typing.specs.Types.{Declared, domain_types}
+use Rattle.typing_types.specs.Types.{Declared, domain_types}
 use Rattle.typing.proofs.Passes.{test_passes, least_at, domain_typed, domain_actions_typed, domain_type_faults_are}
 use Rattle.typing.proofs.linking.pass_domain_types.Goals as goal
 

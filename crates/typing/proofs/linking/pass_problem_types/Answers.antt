@@ -1,7 +1,7 @@
 use Rattle.std.proofs.Common.{◌∙◌, ap, length}
 use Rattle.sexpr.specs.declared.fault.Source.TheVariants as source
 use Rattle.typing_names.specs.Tables.{parts_of, problem_parts_of}
-use Rattle.typing.specs.Types.{Declared, problem_types}
+use Rattle.typing_types.specs.Types.{Declared, problem_types}
 use Rattle.typing.proofs.Passes.{test_passes, least_at, problem_typed, problem_counted, problem_type_faults_are}
 use Rattle.typing.proofs.linking.pass_problem_types.Goals as goal
 

@@ -1,4 +1,4 @@
-use Rattle.typing_linear.proofs.Reading.{one_more_so_far, all_faults, num_reads, num_faults, call_reads, call_faults, op_reads, op_faults, bent_operation}
+use Rattle.typing_linear.proofs.Reading.{one_more_so_far, all_faults, num_reads, num_faults, call_reads, call_faults, op_reads, op_faults, nonlinear_operation}
 use Rattle.typing_linear.proofs.linear.+linear.Goals as goal
 
 pub read_arguments-loop-at-preserved : goal.read_arguments-loop-at-preserved
@@ -25,5 +25,5 @@ read_expression-returns-in-Op-clause-reads t c = op_reads _ _ _ _ _ _ c.in-Op.is
 pub read_expression-returns-in-Op-clause-faults : goal.read_expression-returns-in-Op-clause-faults
 read_expression-returns-in-Op-clause-faults t c = op_faults _ _ _ _ _ _ _ c.in-Op.is c.as_slice.ensures c.read_operation.ensures.faults
 
-pub read_operation-returns-then-is_bent-clause-faults : goal.read_operation-returns-then-is_bent-clause-faults
-read_operation-returns-then-is_bent-clause-faults t c = bent_operation c.args.changing.now c.args.op.now _ c.args.args.now _ _ _ c.args.faults.now _ _ c.as_str.ensures c.read_arguments-reads.ensures.two c.read_arguments-reads.ensures.second c.is_bent.ensures c.if-is_bent.true c.read_arguments-reads.ensures.faults c.note_bent.ensures
+pub read_operation-returns-then-is_nonlinear-clause-faults : goal.read_operation-returns-then-is_nonlinear-clause-faults
+read_operation-returns-then-is_nonlinear-clause-faults t c = nonlinear_operation c.args.changing.now c.args.op.now _ c.args.args.now _ _ _ c.args.faults.now _ _ c.as_str.ensures c.read_arguments-reads.ensures.two c.read_arguments-reads.ensures.second c.is_nonlinear.ensures c.if-is_nonlinear.true c.read_arguments-reads.ensures.faults c.note_nonlinear.ensures

@@ -1,6 +1,6 @@
 use Rattle.std.proofs.Common.{rules}
-use Rattle.typing_uses.proofs.Words.{no_relation_read}
+use Rattle.typing_uses.proofs.Words.{some_relation}
 use Rattle.typing_uses.proofs.conditions.find_relation.Goals as goal
 
-pub returns-in-None-rows : goal.returns-in-None-rows
-returns-in-None-rows c = no_relation_read c.args.text.now c.as_bytes.result.now c.as_bytes.ensures.value (search rules)
+pub unreachable-requires : goal.unreachable-requires
+unreachable-requires c = some_relation c.args.text.now c.as_bytes.result.now c.as_bytes.ensures.value c.requires (search rules)

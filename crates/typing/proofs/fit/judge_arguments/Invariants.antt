@@ -1,6 +1,0 @@
-use Rattle.typing.specs.Known.{declared_of}
-use Rattle.typing.proofs.Fitting.{AreLeft}
-use Rattle.typing.proofs.fit.judge_arguments.Given as goal
-
-abbrev pub invariant-loop-at : goal.invariant-loop-at
-invariant-loop-at l = AreLeft (declared_of l.known) l.params l.args l.at l.initial.faults l.faults

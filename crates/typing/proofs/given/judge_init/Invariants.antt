@@ -1,7 +1,0 @@
-use Rattle.typing.specs.Types.{item_faults}
-use Rattle.typing.specs.Known.{declared_of}
-use Rattle.typing_linear.proofs.Noted.{AreNoted}
-use Rattle.typing.proofs.given.judge_init.Given as goal
-
-abbrev pub invariant-loop-item : goal.invariant-loop-item
-invariant-loop-item l = AreNoted (item_faults (declared_of l.known)) l.init l.item-index l.initial.faults l.faults

@@ -1,6 +1,0 @@
-use Rattle.typing.specs.Types.{type_faults}
-use Rattle.typing_linear.proofs.Noted.{AreNoted}
-use Rattle.typing.proofs.types.judge_types.Given as goal
-
-abbrev pub invariant-loop-one : goal.invariant-loop-one
-invariant-loop-one l = AreNoted (type_faults l.table l.hierarchy) l.listed l.one-index l.initial.faults l.faults

@@ -1,5 +1,0 @@
-use Rattle.typing.proofs.TypeLaws.{AreUnnamed}
-use Rattle.typing.proofs.types.name_params.Given as goal
-
-abbrev pub invariant-loop-param : goal.invariant-loop-param
-invariant-loop-param l = AreUnnamed l.params l.param-index l.initial.table l.table
