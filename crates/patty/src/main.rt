@@ -3,16 +3,9 @@
 //! `main` makes the adapters to the system and hands its words to `plan_run`, which does the work.
 #![tactic(auto)]
 
-mod answer;
-mod judging;
-mod printing;
-mod program;
-#[cfg(test)]
-mod tests;
-
 use patty_io::{DiskShelf, OutSink};
 use patty_run::{Stop, exit_of, status_of_stop, words_of};
-use program::plan_run;
+use planner::plan_run;
 use std::alloc::Global;
 use std::io::ErrorKind;
 use std::process::ExitCode;

@@ -3,20 +3,12 @@
 //! `main` makes the adapters to the system and hands its words to `val_run`, which does the work.
 #![tactic(auto)]
 
-mod answer;
-mod judging;
-mod lines;
-mod printing;
-mod program;
-#[cfg(test)]
-mod tests;
-
 use patty_io::{DiskShelf, OutSink};
 use patty_run::{Stop, exit_of, status_of_stop, words_of};
-use program::val_run;
 use std::alloc::Global;
 use std::io::ErrorKind;
 use std::process::ExitCode;
+use validator::val_run;
 
 fn main(rt: HostRuntime) -> ExitCode {
     let alloc: Global = rt.alloc();
