@@ -2,11 +2,12 @@
 use Rattle.std.specs.Prelude.{◌≡◌, ℕ, ◌+◌, ◌≤◌, List, length, take, ⊤, Some, None, Ok, Err, Option, Result}
 use Rattle.patty_io.specs.declared.shelf.ShelfFail.{ShelfFail}
 use Rattle.patty_io.specs.declared.shelf.ShelfFail.TheVariants.{Failed, Long, Memory}
+use Rattle.patty_io.specs.declared.shelf.TheConstants.{LIMIT}
 use Rattle.patty_io.specs.Faults.{Rose}
 
 -- the length of the longest file that is taken, in bytes
 abbrev pub limit : ℕ
-limit = 67108864
+limit = LIMIT
 
 -- what is told of a file is these bytes
 abbrev pub Tells : Option (List ℕ) → List ℕ → Type 0
@@ -30,8 +31,8 @@ Takes told (Ok done) into = (length into ≤ limit) × Tells told into
 Takes told (Err fail) into = Fails fail told into
 
 -- the count of the name's faults rose where the call failed, and else stays
-abbrev pub HasCause : {T : Type 0} → ℕ → ℕ → Result T ShelfFail → Type 0
-HasCause before now (Ok done) = now ≡ before
-HasCause before now (Err Failed) = (before ≤ now) × Rose before now
-HasCause before now (Err Long) = now ≡ before
-HasCause before now (Err Memory) = now ≡ before
+abbrev pub TakeCounts : {T : Type 0} → ℕ → ℕ → Result T ShelfFail → Type 0
+TakeCounts before now (Ok done) = now ≡ before
+TakeCounts before now (Err Failed) = Rose before now
+TakeCounts before now (Err Long) = now ≡ before
+TakeCounts before now (Err Memory) = now ≡ before

@@ -21,7 +21,7 @@ WritesWhole old new bytes true = Appends old new bytes
 WritesWhole old new bytes false = (n : ℕ) × Appends old new (take n bytes)
 
 -- the count of faults rose where the call failed, and else stays
-abbrev pub HasCause : {T : Type 0} → ℕ → ℕ → Result T SinkFail → Type 0
-HasCause before now (Ok done) = now ≡ before
-HasCause before now (Err Failed) = (before ≤ now) × Rose before now
-HasCause before now (Err Memory) = now ≡ before
+abbrev pub PutCounts : {T : Type 0} → ℕ → ℕ → Result T SinkFail → Type 0
+PutCounts before now (Ok done) = now ≡ before
+PutCounts before now (Err Failed) = Rose before now
+PutCounts before now (Err Memory) = now ≡ before

@@ -34,7 +34,8 @@ impl<'a, R: Files> DiskShelf<'a, R> {
     }
 }
 
-/// Takes all that a reader has, or one byte more than may be taken.
+/// Takes all that a reader has, or one byte more than may be taken. No clause ties a failure to one of the reader, since a
+/// reader counts none.
 fn fill<S: Read>(source: &mut S, into: &mut Vec<u8>) -> Result<(), ShelfFail>
     requires { into.old.items ≡ [] }
     ensures { Takes (S.remaining source.old) result into.new.items }

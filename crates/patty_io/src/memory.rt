@@ -2,8 +2,8 @@
 //!
 //! Tests make the outside fail with them: the calls whose numbers, from 1, are listed answer `Failed`.
 ghost use Rattle.std.specs.Prelude.{◌≡◌, ◌≢◌, ◌≤◌, [], ℕ, List, Some, IsErrOf, option_copied, find, bytes_eq, string_bytes};
-ghost use Rattle.patty_io.specs.Shelf.{Takes, HasCause as HasReadCause};
-ghost use Rattle.patty_io.specs.Sink.{Puts, HasCause};
+ghost use Rattle.patty_io.specs.Shelf.{Takes, TakeCounts};
+ghost use Rattle.patty_io.specs.Sink.{Puts, PutCounts};
 ghost use Rattle.patty_io.specs.Memory.{file_of, is_missed, sink_is_due, IsNewSink, IsNewShelf, FailsExactly, FailsExactlyOrMemory, SinkWentOn, ShelfWentOn};
 ghost use Rattle.patty_io.specs.Faults.{capped};
 ghost use Rattle.patty_io.specs.Failures.{failures_of};
@@ -58,7 +58,7 @@ impl Sink for MemSink {
 
     fn put(&mut self, bytes: &[u8]) -> Result<(), SinkFail>
         ensures bytes { Puts (Some self.old.written.items) (Some self.new.written.items) result bytes.now }
-        ensures cause { HasCause (capped self.old.faults) (capped self.new.faults) result }
+        ensures cause { PutCounts (capped self.old.faults) (capped self.new.faults) result }
         ensures failed { FailsExactly (sink_is_due self.old) result }
         ensures nothing { IsErrOf result SinkFail.Failed → self.new.written.items ≡ self.old.written.items }
         ensures next { SinkWentOn self.old self.new }
@@ -172,7 +172,7 @@ impl Shelf for MemShelf {
     fn take(&mut self, name: &str, into: &mut Vec<u8>) -> Result<(), ShelfFail>
         requires { into.old.items ≡ [] }
         ensures taken { Takes (file_of self.old.files.items name.now) result into.new.items }
-        ensures cause { HasReadCause (failures_of self.old.failures name.now) (failures_of self.new.failures name.now) result }
+        ensures cause { TakeCounts (failures_of self.old.failures name.now) (failures_of self.new.failures name.now) result }
         ensures later { (of : List ℕ) → failures_of self.old.failures of ≤ failures_of self.new.failures of }
         ensures others { (other : List ℕ) → other ≢ name.now → failures_of self.new.failures other ≡ failures_of self.old.failures other }
         ensures content { (of : List ℕ) → file_of self.new.files.items of ≡ file_of self.old.files.items of }

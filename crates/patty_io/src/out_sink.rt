@@ -1,7 +1,7 @@
 //! The standard output, as a sink.
 ghost use Rattle.std.specs.Prelude.{◌≡◌, None};
 ghost use Rattle.patty_io.specs.Faults.{capped};
-ghost use Rattle.patty_io.specs.Sink.{HasCause, Puts, WritesWhole};
+ghost use Rattle.patty_io.specs.Sink.{PutCounts, Puts, WritesWhole};
 
 use crate::{Sink, SinkFail};
 use std::io;
@@ -24,7 +24,8 @@ impl<'a, R: Print> OutSink<'a, R> {
     }
 }
 
-/// Writes a piece whole. A write that takes nothing of what is left is a failure.
+/// Writes a piece whole. A write that takes nothing of what is left is a failure. No clause ties a failure to one of the
+/// writer, since a writer counts none.
 fn write_whole<W: Write>(out: &mut W, bytes: &[u8]) -> bool
     ensures { WritesWhole (W.contents out.old) (W.contents out.new) bytes.now result }
 {
@@ -42,7 +43,7 @@ fn write_whole<W: Write>(out: &mut W, bytes: &[u8]) -> bool
 /// Writes a piece whole, or counts a fault. A writer that tells what it holds shows that nothing is left out.
 fn put_to<W: Write>(out: &mut W, faults: &mut u64, bytes: &[u8]) -> Result<(), SinkFail>
     ensures bytes { Puts (W.contents out.old) (W.contents out.new) result bytes.now }
-    ensures cause { HasCause (capped faults.old) (capped faults.new) result }
+    ensures cause { PutCounts (capped faults.old) (capped faults.new) result }
 {
     if write_whole(out, bytes) {
         return Ok(());

@@ -4,11 +4,12 @@
 //! the file has failed. The second never falls, so a caller that saw a failure can point at the count that rose.
 ghost use Rattle.std.specs.Prelude.{◌≡◌, ◌≢◌, ℕ, List, [], ◌≤◌};
 ghost use Rattle.std.specs.declared.option.Option.{Option};
-ghost use Rattle.patty_io.specs.Shelf.{Takes, HasCause};
+ghost use Rattle.patty_io.specs.Shelf.{Takes, TakeCounts};
 
 use thiserror::Error;
 
-/// The length of the longest file that is taken, in bytes.
+/// The length of the longest file that is taken, in bytes: 64 MiB. Each place in a text, and the number of each thing that
+/// it names, then fits in 32 bits, and a file without an end costs no more memory than that.
 pub const LIMIT: usize = 67_108_864;
 
 /// Why a file wasn't taken.
@@ -38,7 +39,7 @@ pub trait Shelf: Drop {
     fn take(&mut self, name: &str, into: &mut Vec<u8>) -> Result<(), ShelfFail>
         requires { into.old.items ≡ [] }
         ensures taken { Takes (content self.old name.now) result into.new.items }
-        ensures cause { HasCause (faults self.old name.now) (faults self.new name.now) result }
+        ensures cause { TakeCounts (faults self.old name.now) (faults self.new name.now) result }
         ensures later { (of : List ℕ) → faults self.old of ≤ faults self.new of }
         ensures others { (other : List ℕ) → other ≢ name.now → faults self.new other ≡ faults self.old other }
         ensures content { (of : List ℕ) → content self.new of ≡ content self.old of };

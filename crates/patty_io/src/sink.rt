@@ -3,7 +3,7 @@
 //! A sink has two meanings: all that was written, where the sink tells it, and how often a write has failed.
 ghost use Rattle.std.specs.Prelude.{◌≡◌, ℕ, List};
 ghost use Rattle.std.specs.declared.option.Option.{Option};
-ghost use Rattle.patty_io.specs.Sink.{Puts, HasCause};
+ghost use Rattle.patty_io.specs.Sink.{Puts, PutCounts};
 
 use thiserror::Error;
 
@@ -29,5 +29,5 @@ pub trait Sink: Drop {
     /// Writes a piece behind what was written.
     fn put(&mut self, bytes: &[u8]) -> Result<(), SinkFail>
         ensures bytes { Puts (written self.old) (written self.new) result bytes.now }
-        ensures cause { HasCause (faults self.old) (faults self.new) result };
+        ensures cause { PutCounts (faults self.old) (faults self.new) result };
 }

@@ -1,45 +1,55 @@
 -- What the files of a run come to has its cause.
-use Rattle.std.proofs.Common.{◌≡◌, ℕ, ◌<◌, ◌≤◌, List, [], ◌∷◌, length, get_or, Option, Result, Ok, Err, Vec, Global, sym, ap, ap₂, ◌∙◌, subst, arith}
+use Rattle.std.proofs.Common.{◌≡◌, ℕ, ◌<◌, ◌≤◌, List, [], ◌∷◌, length, get_or, Some, Result, Ok, Err, Vec, Global, refl, sym, ap, ap₂, ◌∙◌, subst, arith}
 use Rattle.patty_run.specs.declared.stop.Stop.{Stop}
 use Rattle.patty_run.specs.declared.stop.Stop.TheVariants as stop
 use Rattle.patty_run.specs.Inputs.{InputFile}
+use Rattle.patty_run.specs.Outside.{Files}
 use Rattle.patty_run.specs.Files.{AreHeld}
 use Rattle.patty_run.specs.Taken.{AreNotTaken, contents_of}
-use Rattle.patty_run.specs.Runs.{Program, Decides, Named}
+use Rattle.patty_run.specs.Programs.{Program}
+use Rattle.patty_run.specs.Causes.{StopCauses, Causes}
+use Rattle.patty_run.specs.inside.Runs.{TextsDecide}
 
-module _ {A : Type 0} (program : Program A) (content : List ℕ → Option (List ℕ)) (before now : List ℕ → ℕ) (files : List InputFile) where
-  no_usage : (contents : List (List ℕ)) → Decides program contents (Err stop.Usage) → ⊥
-  no_usage [] is = is
-  no_usage (domain ∷ []) is = is
-  no_usage (domain ∷ problem ∷ more) is = is
-
-  -- files that are read decide a verdict
-  pub decided : (contents : List (List ℕ)) (v : Result A Stop) → AreHeld content files contents → Decides program contents v → Named program content before now files v
-  decided contents (Ok a) held is = record { contents = contents; held = held; decides = is }
-  decided contents (Err stop.Usage) held is = no_usage contents is
-  decided [] (Err (stop.ReadFault input)) held is = absurd is
-  decided (domain ∷ []) (Err (stop.ReadFault input)) held is = absurd is
-  decided (domain ∷ problem ∷ more) (Err (stop.ReadFault input)) held is = absurd is
-  decided [] (Err (stop.Long input)) held is = absurd is
-  decided (domain ∷ []) (Err (stop.Long input)) held is = absurd is
-  decided (domain ∷ problem ∷ more) (Err (stop.Long input)) held is = absurd is
-  decided contents (Err (stop.Fault fault)) held is = record { contents = contents; held = held; decides = is }
-  decided contents (Err stop.Memory) held is = tt
-
-  -- the same of vectors that are taken
-  pub decided_by : (slice vecs expected : List (Vec ℕ Global)) (contents : List (List ℕ)) (v : Result A Stop) → slice ≡ vecs → slice ≡ expected → contents_of expected ≡ contents
-      → AreHeld content files (contents_of vecs) → Decides program contents v → Named program content before now files v
-  decided_by slice vecs expected contents v is_vecs is_expected are held is =
-      let same : contents_of vecs ≡ contents = ap contents_of (sym is_vecs ∙ is_expected) ∙ are in
-      decided contents v (subst (λ (l : List (List ℕ)). AreHeld content files l) same held) is
-
+module _ (files : Files) (names : List InputFile) where
   -- a file that isn't taken stops the run
-  pub stopped : (why : Stop) → AreNotTaken content before now files why → Named program content before now files (Err why)
-  stopped stop.Usage is = is
-  stopped (stop.ReadFault input) is = is
-  stopped (stop.Long input) is = is
+  pub stopped : (why : Stop) → AreNotTaken files names why → StopCauses files (Some names) why
+  stopped stop.Usage is = absurd is
+  stopped (stop.ReadFault input) is = record { names = names; right = refl; fails = is }
+  stopped (stop.Long input) is = record { names = names; right = refl; long = is }
   stopped (stop.Fault fault) is = absurd is
   stopped stop.Memory is = tt
+
+  module _ {A : Type 0} (program : Program A) where
+    -- files that are held decide a verdict
+    decided : (domain problem : List ℕ) (more : List (List ℕ)) (v : Result A Stop) → AreHeld files.content names (domain ∷ problem ∷ more)
+        → TextsDecide program domain problem more v → Causes files (Some names) program v
+    decided domain problem more (Ok a) held is = record {
+      domain = domain;
+      problem = problem;
+      more = more;
+      held = record { names = names; right = refl; held = held };
+      task = is.task;
+      is_task = is.is_task;
+      allowed = is.allowed;
+    }
+    decided domain problem more (Err stop.Usage) held is = absurd is
+    decided domain problem more (Err (stop.ReadFault input)) held is = absurd is
+    decided domain problem more (Err (stop.Long input)) held is = absurd is
+    decided domain problem more (Err (stop.Fault fault)) held is = record {
+      domain = domain;
+      problem = problem;
+      more = more;
+      held = record { names = names; right = refl; held = held };
+      first = is;
+    }
+    decided domain problem more (Err stop.Memory) held is = tt
+
+    -- the same of vectors that are taken
+    pub decided_by : (slice vecs expected : List (Vec ℕ Global)) (domain problem : List ℕ) (more : List (List ℕ)) (v : Result A Stop) → slice ≡ vecs → slice ≡ expected
+        → contents_of expected ≡ domain ∷ problem ∷ more → AreHeld files.content names (contents_of vecs) → TextsDecide program domain problem more v → Causes files (Some names) program v
+    decided_by slice vecs expected domain problem more v is_vecs is_expected are held is =
+        let same : contents_of vecs ≡ domain ∷ problem ∷ more = ap contents_of (sym is_vecs ∙ is_expected) ∙ are in
+        decided domain problem more v (subst (λ (l : List (List ℕ)). AreHeld files.content names l) same held) is
 
 -- ---- the contents of a slice of so many files
 

@@ -6,3 +6,4 @@ pub mod DecidingLaws
 pub mod TaskLaws
 pub mod StatusLaws
 pub mod DueLaws
+pub mod RunLaws

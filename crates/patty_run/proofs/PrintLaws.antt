@@ -3,10 +3,12 @@ use Rattle.std.proofs.Common.{◌≡◌, ℕ, ◌+◌, ◌<◌, List, [], ◌∷
 use Rattle.std.proofs.lemmas.List.{drop_more, take_more, append-nil, map-append}
 use Rattle.std.specs.Io.KnownBytes.{Appends}
 use Rattle.std.proofs.KnownBytes.{Appends-nil}
-use Rattle.patty_io.specs.Sink.{Puts, PutFails, HasCause}
+use Rattle.patty_io.specs.Sink.{Puts, PutFails, PutCounts}
 use Rattle.patty_io.specs.declared.sink.SinkFail.{SinkFail}
 use Rattle.patty_io.specs.declared.sink.SinkFail.TheVariants as fail
-use Rattle.patty_run.specs.Printed.{joined, AppendsFront, StopsPrinting, PutsAll, PrintsAs, status_behind}
+use Rattle.patty_run.specs.Outside.{Output}
+use Rattle.patty_run.specs.Printed.{joined, AppendsFront, StopsPrinting, PutsAll, status_behind}
+use Rattle.patty_run.specs.inside.Runs.{PrintsAs}
 
 pub appends_more : (a b c : Option (List ℕ)) (x y : List ℕ) → Appends a b x → Appends b c y → Appends a c (x ++ y)
 appends_more None b c x y first second = tt
@@ -53,21 +55,23 @@ module _ (old mid new : Option (List ℕ)) (lines : List (Bor (List ℕ))) (i : 
   put_more last = subst (λ (l : List ℕ). Appends old new l) (sym joined_more) (appends_more old mid new _ _ so_far last)
 
   -- a call that failed
-  pub put_stops : (before after : ℕ) (e : SinkFail) → PutFails e mid new text → HasCause {T = Unit {0}} before after (Err e) → AppendsFront old new (joined (texts lines)) × StopsPrinting e before after
-  put_stops before after fail.Failed fails cause = (put_front fails.0 fails.1, cause.1)
-  put_stops before after fail.Memory fails cause = (put_front 0 (appends_none mid new fails), cause)
+  pub put_stops : (before after : ℕ) (e : SinkFail) → PutFails e mid new text → PutCounts {T = Unit {0}} before after (Err e)
+      → AppendsFront old new (joined (texts lines)) × StopsPrinting e (record { written_before = old; written = new; failed_before = before; failed = after })
+  put_stops before after fail.Failed fails counts = (put_front fails.0 fails.1, counts)
+  put_stops before after fail.Memory fails counts = (put_front 0 (appends_none mid new fails), counts)
 
--- what was written, with the status that stands for it
-pub printed_as : (old new : Option (List ℕ)) (before now : ℕ) (bytes : List ℕ) (status told code : ℕ) (r : Result (Unit {0}) SinkFail)
-    → PutsAll old new before now bytes r → told ≡ status → code ≡ status_behind told r → PrintsAs old new before now bytes status code
-printed_as old new before now bytes status told code (Ok done) puts same is = inl (is ∙ same, puts.0, puts.1)
-printed_as old new before now bytes status told code (Err fail.Failed) puts same is = inr (puts.0, inl (is, puts.1))
-printed_as old new before now bytes status told code (Err fail.Memory) puts same is = inr (puts.0, inr (is, puts.1))
+module _ (output : Output) where
+  -- what was written, with the status that stands for it
+  pub printed_as : (lines : List (List ℕ)) (status told code : ℕ) (r : Result (Unit {0}) SinkFail)
+      → PutsAll output (joined lines) r → told ≡ status → code ≡ status_behind told r → PrintsAs output lines status code
+  printed_as lines status told code (Ok done) puts same is = inl (is ∙ same, puts.0, puts.1)
+  printed_as lines status told code (Err fail.Failed) puts same is = inr (puts.0, inl (is, puts.1))
+  printed_as lines status told code (Err fail.Memory) puts same is = inr (puts.0, inr (is, puts.1))
 
--- one piece
-pub put_one : (old new : Option (List ℕ)) (before now : ℕ) (bytes : List ℕ) (r : Result (Unit {0}) SinkFail) → Puts old new r bytes → HasCause before now r → PutsAll old new before now bytes r
-put_one old new before now bytes (Ok done) puts cause = (puts, cause)
-put_one old new before now bytes (Err fail.Failed) puts cause =
-    (record { front = take puts.0 bytes; rest = drop puts.0 bytes; split = sym (take-append-drop puts.0 bytes); added = puts.1 }, cause.1)
-put_one old new before now bytes (Err fail.Memory) puts cause =
-    (record { front = []; rest = bytes; split = refl; added = appends_none old new puts }, cause)
+  -- one piece
+  pub put_one : (bytes : List ℕ) (r : Result (Unit {0}) SinkFail) → Puts output.written_before output.written r bytes → PutCounts output.failed_before output.failed r → PutsAll output bytes r
+  put_one bytes (Ok done) puts counts = (puts, counts)
+  put_one bytes (Err fail.Failed) puts counts =
+      (record { front = take puts.0 bytes; rest = drop puts.0 bytes; split = sym (take-append-drop puts.0 bytes); added = puts.1 }, counts)
+  put_one bytes (Err fail.Memory) puts counts =
+      (record { front = []; rest = bytes; split = refl; added = appends_none output.written_before output.written puts }, counts)

@@ -9,7 +9,7 @@ use Rattle.pddl_domain.specs.Domain.{domain_form}
 use Rattle.pddl_task.specs.declared.parts.TaskParts.{TaskParts}
 use Rattle.typing.specs.Link.{link_of}
 use Rattle.patty_run.proofs.TextLaws.{one_syntax, fault_not, one_fault}
-use Rattle.patty_run.specs.Tasks.{IsDomain, IsProblem, IsDomainFault, IsProblemFault, Spell, IsTask, IsReadFault, IsFirstFault}
+use Rattle.patty_run.specs.Tasks.{IsDomain, IsProblem, IsDomainFault, IsProblemFault, Spell, IsTask, IsReadFault, IsTaskFault}
 
 domain_fault_not : (bytes : List ℕ) (fault : TextFault) (domain : DomainAst) → IsDomainFault bytes fault → IsDomain bytes domain → ⊥
 domain_fault_not bytes fault domain is also = fault_not domain_form bytes source.Domain fault domain is also
@@ -36,7 +36,7 @@ task_or_fault : (domain problem : List ℕ) (t : TaskParts) (f : TextFault) → 
 task_or_fault domain problem t f is also = let same = one_link domain problem (Ok t) (Err f) is also in cc (same)
 
 -- two texts that have a first fault have no task
-pub fault_no_task : (domain problem : List ℕ) (fault : TextFault) (t : TaskParts) → IsFirstFault domain problem fault → IsTask domain problem t → ⊥
+pub fault_no_task : (domain problem : List ℕ) (fault : TextFault) (t : TaskParts) → IsTaskFault domain problem fault → IsTask domain problem t → ⊥
 fault_no_task domain problem fault t (inl is) task = spelled_not domain problem fault (Ok t) is task
 fault_no_task domain problem fault t (inr is) task = task_or_fault domain problem t fault task is
 
@@ -46,7 +46,7 @@ one_read domain problem f g (inl is) (inr also) = absurd (domain_fault_not domai
 one_read domain problem f g (inr is) (inl also) = absurd (domain_fault_not domain g is.0.0 also is.0.1)
 one_read domain problem f g (inr is) (inr also) = one_fault problem_form problem source.Problem f g is.1 also.1
 
-pub one_first : (domain problem : List ℕ) (f g : TextFault) → IsFirstFault domain problem f → IsFirstFault domain problem g → f ≡ g
+pub one_first : (domain problem : List ℕ) (f g : TextFault) → IsTaskFault domain problem f → IsTaskFault domain problem g → f ≡ g
 one_first domain problem f g (inl is) (inl also) = one_read domain problem f g is also
 one_first domain problem f g (inl is) (inr also) = absurd (spelled_not domain problem f (Err g) is also)
 one_first domain problem f g (inr is) (inl also) = absurd (spelled_not domain problem g (Err f) also is)

@@ -1,9 +1,10 @@
--- What taking the files of a program comes to, one after another (this project).
+-- What the files of a program hold, one after another (this project).
 use Rattle.std.specs.Prelude.{◌≡◌, ◌⊎◌, ℕ, ◌<◌, ◌≤◌, List, [], ◌∷◌, length, Option, Some, None}
 use Rattle.patty_io.specs.Faults.{Rose}
 use Rattle.patty_io.specs.Shelf.{limit, Tells}
 use Rattle.patty_run.specs.declared.input.Input.{Input}
 use Rattle.patty_run.specs.Inputs.{InputFile}
+use Rattle.patty_run.specs.Outside.{Files, FailsAlone}
 
 -- some bytes, which are what a file holds, where that is told, and not too long
 pub record IsHeld (told : Option (List ℕ)) (bytes : List ℕ) : Type 0 where
@@ -19,48 +20,47 @@ IsTooLong (Some bytes) = limit < length bytes
 abbrev pub AreHeld : (List ℕ → Option (List ℕ)) → List InputFile → List (List ℕ) → Type 0
 AreHeld content [] [] = Unit {0}
 AreHeld content [] (bytes ∷ more) = ⊥
-AreHeld content (file ∷ files) [] = ⊥
-AreHeld content (file ∷ files) (bytes ∷ more) = IsHeld (content file.name) bytes × AreHeld content files more
+AreHeld content (file ∷ named) [] = ⊥
+AreHeld content (file ∷ named) (bytes ∷ more) = IsHeld (content file.name) bytes × AreHeld content named more
 
--- the files in front of this input are taken, and its name has this cause not to be
+-- the files in front of this input are held, and this is so of its name
 abbrev pub StopsAt : (List ℕ → Option (List ℕ)) → (List ℕ → Type 0) → List InputFile → Input → Type 0
-StopsAt content Cause [] input = ⊥
-StopsAt content Cause (file ∷ files) input =
-    ((file.input ≡ input) × Cause file.name) ⊎ (((bytes : List ℕ) × IsHeld (content file.name) bytes) × StopsAt content Cause files input)
+StopsAt content IsSo [] input = ⊥
+StopsAt content IsSo (file ∷ named) input =
+    ((file.input ≡ input) × IsSo file.name) ⊎ (((bytes : List ℕ) × IsHeld (content file.name) bytes) × StopsAt content IsSo named input)
 
--- the first file that isn't taken is too long
-abbrev pub IsLong : (List ℕ → Option (List ℕ)) → List InputFile → Input → Type 0
-IsLong content files input = StopsAt content (λ name. IsTooLong (content name)) files input
+-- the first file that isn't held is too long
+abbrev pub IsLong : Files → List InputFile → Input → Type 0
+IsLong files named input = StopsAt files.content (λ name. IsTooLong (files.content name)) named input
 
--- the first file that isn't taken can't be read: its count of faults rose
-abbrev pub FailsAt : (List ℕ → Option (List ℕ)) → (List ℕ → ℕ) → (List ℕ → ℕ) → List InputFile → Input → Type 0
-FailsAt content before now files input = StopsAt content (λ name. Rose (before name) (now name)) files input
+-- the first file that isn't held can't be read: taking it failed once, and no other file failed
+abbrev pub FailsAt : Files → List InputFile → Input → Type 0
+FailsAt files named input = StopsAt files.content (FailsAlone files) named input
 
--- ---- files whose contents are told, and whose counts of faults didn't rise
+-- ---- files that are told, and that didn't fail
 
 -- a file is told to hold these bytes, which aren't too many
-pub record IsTold (told : Option (List ℕ)) (before now : ℕ) (bytes : List ℕ) : Type 0 where
-  pub is : told ≡ Some bytes
+pub record IsTold (files : Files) (name bytes : List ℕ) : Type 0 where
+  pub is : files.content name ≡ Some bytes
   pub small : length bytes ≤ limit
-  pub well : Rose before now → ⊥
+  pub well : Rose (files.failed_before name) (files.failed name) → ⊥
 
 -- a file is told to hold too many bytes
-pub record IsToldLong (told : Option (List ℕ)) (before now : ℕ) : Type 0 where
+pub record IsToldLong (files : Files) (name : List ℕ) : Type 0 where
   pub bytes : List ℕ
-  pub is : told ≡ Some bytes
+  pub is : files.content name ≡ Some bytes
   pub long : limit < length bytes
-  pub well : Rose before now → ⊥
+  pub well : Rose (files.failed_before name) (files.failed name) → ⊥
 
-abbrev pub AreTold : (List ℕ → Option (List ℕ)) → (List ℕ → ℕ) → (List ℕ → ℕ) → List InputFile → List (List ℕ) → Type 0
-AreTold content before now [] [] = Unit {0}
-AreTold content before now [] (bytes ∷ more) = ⊥
-AreTold content before now (file ∷ files) [] = ⊥
-AreTold content before now (file ∷ files) (bytes ∷ more) =
-    IsTold (content file.name) (before file.name) (now file.name) bytes × AreTold content before now files more
+-- each file is told to hold its bytes
+abbrev pub AreTold : Files → List InputFile → List (List ℕ) → Type 0
+AreTold files [] [] = Unit {0}
+AreTold files [] (bytes ∷ more) = ⊥
+AreTold files (file ∷ named) [] = ⊥
+AreTold files (file ∷ named) (bytes ∷ more) = IsTold files file.name bytes × AreTold files named more
 
 -- the files in front of this input are told, and it is told to be too long
-abbrev pub IsLongAt : (List ℕ → Option (List ℕ)) → (List ℕ → ℕ) → (List ℕ → ℕ) → List InputFile → Input → Type 0
-IsLongAt content before now [] input = ⊥
-IsLongAt content before now (file ∷ files) input =
-    ((file.input ≡ input) × IsToldLong (content file.name) (before file.name) (now file.name))
-    ⊎ (((bytes : List ℕ) × IsTold (content file.name) (before file.name) (now file.name) bytes) × IsLongAt content before now files input)
+abbrev pub IsLongAt : Files → List InputFile → Input → Type 0
+IsLongAt files [] input = ⊥
+IsLongAt files (file ∷ named) input =
+    ((file.input ≡ input) × IsToldLong files file.name) ⊎ (((bytes : List ℕ) × IsTold files file.name bytes) × IsLongAt files named input)

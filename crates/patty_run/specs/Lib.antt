@@ -1,9 +1,11 @@
 pub mod Inputs
 pub mod Texts
 pub mod Tasks
+pub mod Outside
 pub mod Files
-pub mod Counts
 pub mod Printed
-pub mod Runs
+pub mod Programs
+pub mod Causes
 pub mod Statuses
 pub mod Taken
+pub mod inside

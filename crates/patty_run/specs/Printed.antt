@@ -1,5 +1,5 @@
 -- What is printed: lines, one behind another, or a front of them where a write fails (this project).
-use Rattle.std.specs.Prelude.{◌≡◌, ◌⊎◌, ℕ, List, [], ◌∷◌, ◌++◌, Option, Ok, Err, Result, codes}
+use Rattle.std.specs.Prelude.{◌≡◌, ℕ, List, [], ◌∷◌, ◌++◌, Option, Ok, Err, Result, codes}
 use Rattle.std.specs.Io.KnownBytes.{Appends}
 use Rattle.std.specs.Fmt.{decimal}
 use Rattle.sexpr.specs.declared.fault.Source.{Source}
@@ -7,11 +7,11 @@ use Rattle.sexpr.specs.declared.fault.Source.TheVariants as source
 use Rattle.sexpr.specs.declared.fault.TextFault.{TextFault}
 use Rattle.patty_io.specs.declared.sink.SinkFail.{SinkFail}
 use Rattle.patty_io.specs.declared.sink.SinkFail.TheVariants as fail
-use Rattle.patty_io.specs.Faults.{Rose}
 use Rattle.patty_run.specs.declared.input.Input.{Input}
 use Rattle.patty_run.specs.declared.stop.Stop.{Stop}
 use Rattle.patty_run.specs.declared.stop.Stop.TheVariants as stop
 use Rattle.patty_run.specs.Inputs.{word_of}
+use Rattle.patty_run.specs.Outside.{Output, WriteFails, NoWriteFails}
 
 abbrev pub line : List ℕ → List ℕ
 line bytes = bytes ++ 10 ∷ []
@@ -63,6 +63,10 @@ stop_status stop.Memory = 7
 
 -- ---- writing
 
+-- these lines were written
+abbrev pub Prints : Output → List (List ℕ) → Type 0
+Prints output lines = Appends output.written_before output.written (joined lines)
+
 -- some front of these bytes was added
 pub record AppendsFront (old new : Option (List ℕ)) (bytes : List ℕ) : Type 0 where
   pub front : List ℕ
@@ -70,21 +74,18 @@ pub record AppendsFront (old new : Option (List ℕ)) (bytes : List ℕ) : Type 
   pub split : bytes ≡ front ++ rest
   pub added : Appends old new front
 
-abbrev pub StopsPrinting : SinkFail → ℕ → ℕ → Type 0
-StopsPrinting fail.Failed before now = Rose before now
-StopsPrinting fail.Memory before now = now ≡ before
+-- a front of these lines was written
+abbrev pub PrintsFront : Output → List (List ℕ) → Type 0
+PrintsFront output lines = AppendsFront output.written_before output.written (joined lines)
+
+abbrev pub StopsPrinting : SinkFail → Output → Type 0
+StopsPrinting fail.Failed output = WriteFails output
+StopsPrinting fail.Memory output = NoWriteFails output
 
 -- all bytes are written, or a front of them
-abbrev pub PutsAll : {T : Type 0} → Option (List ℕ) → Option (List ℕ) → ℕ → ℕ → List ℕ → Result T SinkFail → Type 0
-PutsAll old new before now bytes (Ok done) = Appends old new bytes × (now ≡ before)
-PutsAll old new before now bytes (Err e) = AppendsFront old new bytes × StopsPrinting e before now
-
--- these bytes are written, with this status and no failure, or a front of them: then the status is 6 where the sink's
--- count of faults rose, or 7 for want of memory, where it is as before
-abbrev pub PrintsAs : Option (List ℕ) → Option (List ℕ) → ℕ → ℕ → List ℕ → ℕ → ℕ → Type 0
-PrintsAs old new before now bytes status code =
-    ((code ≡ status) × Appends old new bytes × (now ≡ before))
-    ⊎ (AppendsFront old new bytes × (((code ≡ 6) × Rose before now) ⊎ ((code ≡ 7) × (now ≡ before))))
+abbrev pub PutsAll : {T : Type 0} → Output → List ℕ → Result T SinkFail → Type 0
+PutsAll output bytes (Ok done) = Appends output.written_before output.written bytes × NoWriteFails output
+PutsAll output bytes (Err e) = AppendsFront output.written_before output.written bytes × StopsPrinting e output
 
 -- the status of a run whose lines were written, or weren't
 abbrev pub status_behind : {T : Type 0} → ℕ → Result T SinkFail → ℕ

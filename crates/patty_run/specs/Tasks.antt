@@ -42,16 +42,16 @@ IsTask domain problem task = Spell domain problem (Ok task)
 abbrev pub IsReadFault : List ℕ → List ℕ → TextFault → Type 0
 IsReadFault domain problem fault = IsDomainFault domain fault ⊎ (((first : DomainAst) × IsDomain domain first) × IsProblemFault problem fault)
 
--- the first fault of two texts: of one by itself, or else of the two together
-abbrev pub IsFirstFault : List ℕ → List ℕ → TextFault → Type 0
-IsFirstFault domain problem fault = IsReadFault domain problem fault ⊎ Spell domain problem (Err fault)
+-- why two texts have no task: the first fault, of one by itself, or else of the two together
+abbrev pub IsTaskFault : List ℕ → List ℕ → TextFault → Type 0
+IsTaskFault domain problem fault = IsReadFault domain problem fault ⊎ Spell domain problem (Err fault)
 
 -- why two texts come to no task: their first fault, unless memory ran out
 abbrev pub IsNoTask : List ℕ → List ℕ → Stop → Type 0
 IsNoTask domain problem stop.Usage = ⊥
 IsNoTask domain problem (stop.ReadFault input) = ⊥
 IsNoTask domain problem (stop.Long input) = ⊥
-IsNoTask domain problem (stop.Fault fault) = IsFirstFault domain problem fault
+IsNoTask domain problem (stop.Fault fault) = IsTaskFault domain problem fault
 IsNoTask domain problem stop.Memory = Unit {0}
 
 -- what reading the two texts answers

@@ -2,6 +2,7 @@
 ghost use Rattle.std.specs.Prelude.{◌≡◌, map, IfOk, string_bytes};
 ghost use Rattle.std.specs.Process.{exit_status};
 ghost use Rattle.patty_run.specs.Printed as printed;
+ghost use Rattle.patty_run.specs.Outside.{output_seen};
 ghost use Rattle.patty_run.specs.Printed.{joined, PutsAll};
 
 use crate::Stop;
@@ -13,7 +14,7 @@ use std::process::ExitCode;
 
 /// Writes pieces one behind another.
 pub fn put_all<O: Sink>(out: &mut O, pieces: &[&str]) -> Result<(), SinkFail>
-    ensures { PutsAll (O.written out.old) (O.written out.new) (O.faults out.old) (O.faults out.new) (joined (map (λ r. r.now) pieces.now)) result }
+    ensures { PutsAll (output_seen O.written O.faults out.old out.new) (joined (map (λ r. r.now) pieces.now)) result }
 {
     for piece in pieces {
         match out.put(piece.as_bytes()) {
@@ -26,7 +27,7 @@ pub fn put_all<O: Sink>(out: &mut O, pieces: &[&str]) -> Result<(), SinkFail>
 
 /// Writes one piece of bytes.
 pub fn put_bytes<O: Sink>(out: &mut O, bytes: &[u8]) -> Result<(), SinkFail>
-    ensures { PutsAll (O.written out.old) (O.written out.new) (O.faults out.old) (O.faults out.new) bytes.now result }
+    ensures { PutsAll (output_seen O.written O.faults out.old out.new) bytes.now result }
 {
     out.put(bytes)
 }
@@ -90,7 +91,7 @@ pub fn put_stop<O: Sink>(
     stop: &Stop,
     out: &mut O,
 ) -> Result<(), SinkFail>
-    ensures { PutsAll (O.written out.old) (O.written out.new) (O.faults out.old) (O.faults out.new) (joined (printed.stop_lines usage.now stop.now)) result }
+    ensures { PutsAll (output_seen O.written O.faults out.old out.new) (joined (printed.stop_lines usage.now stop.now)) result }
 {
     if let Stop::Memory = stop {
         return Ok(());

@@ -1,8 +1,10 @@
 //! Taking the files of a program in order, up to the first that can't be taken.
-ghost use Rattle.std.specs.Prelude.{◌≡◌, ◌≤◌, ℕ, List, map};
+ghost use Rattle.std.specs.Prelude.{◌≡◌, ℕ, List, map};
 ghost use Rattle.patty_run.specs.Inputs.{file_of};
-ghost use Rattle.patty_run.specs.Counts.{KeepsCounts};
-ghost use Rattle.patty_run.specs.Taken.{IsTaken, AreTaken};
+ghost use Rattle.patty_run.specs.Outside.{files_seen};
+ghost use Rattle.patty_run.specs.Causes.{Counts};
+ghost use Rattle.patty_run.specs.Taken.{AreTaken};
+ghost use Rattle.patty_run.specs.inside.Taking.{IsTaken};
 
 use crate::{Input, NamedInput, Stop};
 use patty_io::{Shelf, ShelfFail};
@@ -15,9 +17,8 @@ fn take_input<F: Shelf>(
     name: &str,
     input: Input,
 ) -> Result<Vec<u8>, Stop>
-    ensures taken { IsTaken (F.content files.old name.now) (F.faults files.old name.now) (F.faults files.new name.now) input result }
-    ensures counts { KeepsCounts (F.faults files.old) (F.faults files.new) result }
-    ensures later { (of : List ℕ) → F.faults files.old of ≤ F.faults files.new of }
+    ensures taken { IsTaken (files_seen F.content F.faults files.old files.new) name.now input result }
+    ensures counts { Counts (files_seen F.content F.faults files.old files.new) result }
     ensures content { (of : List ℕ) → F.content files.new of ≡ F.content files.old of }
 {
     let mut bytes = Vec::new(alloc);
@@ -29,14 +30,15 @@ fn take_input<F: Shelf>(
     }
 }
 
-/// The bytes of all files, in the order of the inputs, or why one can't be taken; those behind it aren't tried.
+/// The bytes of all files, in the order of the inputs, or why the first that can't be taken isn't. No file behind it is tried:
+/// a failure there would show in the counts.
 pub fn take_inputs<F: Shelf>(
     alloc: Global,
     files: &mut F,
     inputs: &[NamedInput<'_>],
 ) -> Result<Vec<Vec<u8>>, Stop>
-    ensures taken { AreTaken (F.content files.old) (F.faults files.old) (F.faults files.new) (map file_of inputs.now) result }
-    ensures counts { KeepsCounts (F.faults files.old) (F.faults files.new) result }
+    ensures taken { AreTaken (files_seen F.content F.faults files.old files.new) (map file_of inputs.now) result }
+    ensures counts { Counts (files_seen F.content F.faults files.old files.new) result }
     ensures content { (of : List ℕ) → F.content files.new of ≡ F.content files.old of }
 {
     let mut all = Vec::new(alloc);

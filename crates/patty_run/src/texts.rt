@@ -7,6 +7,7 @@ ghost use Rattle.patty_run.specs.Texts.{ReadsText};
 ghost use Rattle.patty_run.specs.Tasks.{ReadsTask};
 
 use crate::Stop;
+use patty_io::LIMIT;
 use pddl_domain::{DomainAst, read_domain};
 use pddl_problem::{ProblemAst, read_problem};
 use pddl_task::Task;
@@ -15,7 +16,7 @@ use std::alloc::Global;
 use typing::link;
 
 fn read_domain_text(alloc: Global, bytes: &[u8]) -> Result<DomainAst, TextRefusal>
-    requires { length bytes.now ≤ 67108864 }
+    requires { length bytes.now ≤ LIMIT }
     ensures { ReadsText domain_form source.Domain bytes.now result }
 {
     let tree = match read(alloc, Source::Domain, bytes) {
@@ -26,7 +27,7 @@ fn read_domain_text(alloc: Global, bytes: &[u8]) -> Result<DomainAst, TextRefusa
 }
 
 fn read_problem_text(alloc: Global, bytes: &[u8]) -> Result<ProblemAst, TextRefusal>
-    requires { length bytes.now ≤ 67108864 }
+    requires { length bytes.now ≤ LIMIT }
     ensures { ReadsText problem_form source.Problem bytes.now result }
 {
     let tree = match read(alloc, Source::Problem, bytes) {
@@ -38,8 +39,8 @@ fn read_problem_text(alloc: Global, bytes: &[u8]) -> Result<ProblemAst, TextRefu
 
 /// The task of two texts, or their first fault.
 pub fn read_task(alloc: Global, domain: &[u8], problem: &[u8]) -> Result<Task, Stop>
-    requires domain_small { length domain.now ≤ 67108864 }
-    requires problem_small { length problem.now ≤ 67108864 }
+    requires domain_small { length domain.now ≤ LIMIT }
+    requires problem_small { length problem.now ≤ LIMIT }
     ensures { ReadsTask domain.now problem.now result }
 {
     let first = match read_domain_text(alloc, domain) {

@@ -1,10 +1,11 @@
 //! What a task comes to: whether its goal holds at the start.
 ghost use Rattle.std.specs.Prelude.{◌≡◌, ◌≤◌, false, [], length, IfOk};
-ghost use Rattle.patty_run.specs.Runs.{TextsDecide};
+ghost use Rattle.patty_run.specs.inside.Runs.{TextsDecide};
 ghost use Rattle.planner.specs.Goal as goals;
 ghost use Rattle.planner.specs.Planner as planners;
 
 use crate::answer::Answer;
+use patty_io::LIMIT;
 use patty_run::{Stop, read_task};
 use pddl_task::{Cond, Task};
 use plan_step::{State, goal};
@@ -35,7 +36,7 @@ fn holds_at_start(alloc: Global, task: &Task) -> Result<bool, AllocError>
 }
 
 fn judge_task(alloc: Global, task: &Task) -> Result<Answer, AllocError>
-    ensures { IfOk result (planners.Answers task.now) }
+    ensures { IfOk result (planners.Allows task.now) }
 {
     if has_comparison(task.goal()) {
         return Ok(Answer::NotBuilt);
@@ -49,8 +50,8 @@ fn judge_task(alloc: Global, task: &Task) -> Result<Answer, AllocError>
 
 /// What the texts of a domain and a problem come to.
 pub fn judge_texts(alloc: Global, domain: &[u8], problem: &[u8]) -> Result<Answer, Stop>
-    requires domain_small { length domain.now ≤ 67108864 }
-    requires problem_small { length problem.now ≤ 67108864 }
+    requires domain_small { length domain.now ≤ LIMIT }
+    requires problem_small { length problem.now ≤ LIMIT }
     ensures { TextsDecide planners.planner domain.now problem.now [] result }
 {
     let task = match read_task(alloc, domain, problem) {

@@ -1,7 +1,9 @@
 //! The lines of a verdict, and the status of the run.
 ghost use Rattle.std.specs.Prelude.{◌≡◌};
-ghost use Rattle.patty_run.specs.Printed.{joined, PutsAll, PrintsAs};
-ghost use Rattle.patty_run.specs.Runs.{lines_of, status_of};
+ghost use Rattle.patty_run.specs.Outside.{output_seen};
+ghost use Rattle.patty_run.specs.Printed.{joined, PutsAll};
+ghost use Rattle.patty_run.specs.Programs.{lines_of, status_of};
+ghost use Rattle.patty_run.specs.inside.Runs.{PrintsAs};
 ghost use Rattle.planner.specs.Planner as planners;
 
 use crate::answer::Answer;
@@ -18,7 +20,7 @@ const REFUTED: [&str; 3] = ["block 0\n", "refuted\n", "end\n"];
 const NOT_BUILT: [&str; 1] = ["fault problem 23 0\n"];
 
 fn put_answer<O: Sink>(answer: Answer, out: &mut O) -> Result<(), SinkFail>
-    ensures { PutsAll (O.written out.old) (O.written out.new) (O.faults out.old) (O.faults out.new) (joined (planners.lines answer)) result }
+    ensures { PutsAll (output_seen O.written O.faults out.old out.new) (joined (planners.lines answer)) result }
 {
     match answer {
         Answer::Plan => put_all(out, &PLAN),
@@ -42,7 +44,7 @@ fn put_verdict<O: Sink>(
     verdict: &Result<Answer, Stop>,
     out: &mut O,
 ) -> Result<(), SinkFail>
-    ensures { PutsAll (O.written out.old) (O.written out.new) (O.faults out.old) (O.faults out.new) (joined (lines_of planners.planner verdict.now)) result }
+    ensures { PutsAll (output_seen O.written O.faults out.old out.new) (joined (lines_of planners.planner verdict.now)) result }
 {
     match verdict {
         Ok(answer) => put_answer(*answer, out),
@@ -61,7 +63,7 @@ fn status_of_verdict(verdict: &Result<Answer, Stop>) -> u8
 
 /// Prints a verdict.
 pub fn print<O: Sink>(alloc: Global, verdict: &Result<Answer, Stop>, out: &mut O) -> Status
-    ensures { PrintsAs (O.written out.old) (O.written out.new) (O.faults out.old) (O.faults out.new) (joined (lines_of planners.planner verdict.now)) (status_of planners.planner verdict.now) result.code }
+    ensures { PrintsAs (output_seen O.written O.faults out.old out.new) (lines_of planners.planner verdict.now) (status_of planners.planner verdict.now) result.code }
 {
     let written = put_verdict(alloc, verdict, out);
     finish(written, status_of_verdict(verdict))

@@ -1,18 +1,14 @@
 //! The planner's top call: first a verdict on the words, the files and the texts, then its lines.
 //!
-//! `plan_run` carries a clause for each status, and one that says which verdict is due.
-ghost use Rattle.std.specs.Prelude.{◌≡◌, ◌≢◌, ◌⊎◌, [], ◌∷◌, Result, Ok, Some};
-ghost use Rattle.patty_io.specs.Faults.{Rose};
+//! `plan_run` carries one word, `IsPlanRun`: a sentence for each status, and what is due.
+ghost use Rattle.std.specs.Prelude.{[], ◌∷◌, Some};
 ghost use Rattle.patty_run.specs.declared.input.Input.TheVariants as input;
-ghost use Rattle.patty_run.specs.declared.stop.Stop.{Stop as Stopped};
 ghost use Rattle.patty_run.specs.Inputs.{input_file};
-ghost use Rattle.patty_run.specs.Counts.{AreSame, KeepsCounts};
-ghost use Rattle.patty_run.specs.Runs.{Causes};
-ghost use Rattle.patty_run.specs.Statuses.{Runs, Comes, IsRefused, IsUsage, FailsToRead, IsStarted, IsDue, Ends};
-ghost use Rattle.planner.specs.declared.answer.Answer.{Answer as Answers};
-ghost use Rattle.planner.specs.declared.answer.Answer.TheVariants as answer;
+ghost use Rattle.patty_run.specs.Outside.{files_seen, output_seen, outside_seen};
+ghost use Rattle.patty_run.specs.Causes.{Causes, Counts};
+ghost use Rattle.patty_run.specs.inside.Runs.{Runs};
 ghost use Rattle.planner.specs.Words.{files_of};
-ghost use Rattle.planner.specs.Planner.{planner};
+ghost use Rattle.planner.specs.Planner.{planner, IsPlanRun};
 
 use crate::answer::Answer;
 use crate::judging::judge_texts;
@@ -27,8 +23,8 @@ fn judge_files<F: Shelf>(
     problem: &str,
     files: &mut F,
 ) -> Result<Answer, Stop>
-    ensures caused { Causes planner (F.content files.old) (F.faults files.old) (F.faults files.new) (Some (input_file input.Domain domain.now ∷ input_file input.Problem problem.now ∷ [])) result }
-    ensures counts { KeepsCounts (F.faults files.old) (F.faults files.new) result }
+    ensures caused { Causes (files_seen F.content F.faults files.old files.new) (Some (input_file input.Domain domain.now ∷ input_file input.Problem problem.now ∷ [])) planner result }
+    ensures counts { Counts (files_seen F.content F.faults files.old files.new) result }
 {
     let inputs = [
         NamedInput {
@@ -51,8 +47,8 @@ fn judge_files<F: Shelf>(
 }
 
 fn judge<F: Shelf>(alloc: Global, words: &[String], files: &mut F) -> Result<Answer, Stop>
-    ensures caused { Causes planner (F.content files.old) (F.faults files.old) (F.faults files.new) (files_of words.now) result }
-    ensures counts { KeepsCounts (F.faults files.old) (F.faults files.new) result }
+    ensures caused { Causes (files_seen F.content F.faults files.old files.new) (files_of words.now) planner result }
+    ensures counts { Counts (files_seen F.content F.faults files.old files.new) result }
 {
     match words {
         [domain, problem, option, value] if option.as_str() == "--max-n" && value.as_str() == "0" =>
@@ -62,7 +58,7 @@ fn judge<F: Shelf>(alloc: Global, words: &[String], files: &mut F) -> Result<Ans
 }
 
 fn run<F: Shelf, O: Sink>(alloc: Global, words: &[String], files: &mut F, out: &mut O) -> Status
-    ensures { Runs planner (F.content files.old) (F.faults files.old) (F.faults files.new) (files_of words.now) (O.written out.old) (O.written out.new) (O.faults out.old) (O.faults out.new) result.code }
+    ensures { Runs planner (outside_seen words.now (files_seen F.content F.faults files.old files.new) (output_seen O.written O.faults out.old out.new)) result.code }
 {
     let verdict = judge(alloc, words, files);
     print(alloc, &verdict, out)
@@ -78,28 +74,7 @@ pub fn plan_run<F: Shelf, O: Sink>(
     files: &mut F,
     out: &mut O,
 ) -> Status
-    ensures plan { result.code ≡ 0 → Comes planner (F.content files.old) (files_of words.now) (O.written out.old) (O.written out.new) (Ok answer.Plan) }
-    ensures refuted { result.code ≡ 1 → Comes planner (F.content files.old) (files_of words.now) (O.written out.old) (O.written out.new) (Ok answer.Refuted) }
-    ensures refused { result.code ≡ 3 → IsRefused planner (F.content files.old) (files_of words.now) (O.written out.old) (O.written out.new)
-        ⊎ Comes planner (F.content files.old) (files_of words.now) (O.written out.old) (O.written out.new) (Ok answer.NotBuilt) }
-    ensures usage { result.code ≡ 4 → IsUsage planner (F.content files.old) (files_of words.now) (O.written out.old) (O.written out.new) }
-    ensures read_fault { result.code ≡ 5 → FailsToRead planner (F.content files.old) (F.faults files.old) (F.faults files.new) (files_of words.now) (O.written out.old) (O.written out.new) }
-    ensures write_fault { result.code ≡ 6 → Rose (O.faults out.old) (O.faults out.new) }
-
-    // Some verdict has its cause, and its lines are printed with its status, or a front of them.
-    ensures runs { Runs planner (F.content files.old) (F.faults files.old) (F.faults files.new) (files_of words.now) (O.written out.old) (O.written out.new) (O.faults out.old) (O.faults out.new) result.code }
-
-    // A failed write that the sink counts shows in the status, and so does a failed read that the shelf counts.
-    ensures written_well { result.code ≢ 6 → O.faults out.new ≡ O.faults out.old }
-    ensures read_well { result.code ≢ 5 → result.code ≢ 6 → result.code ≢ 7 → AreSame (F.faults files.old) (F.faults files.new) }
-
-    // Whatever the status, also after a failed write and where memory ran out, a front of the lines of some
-    // verdict that has its cause was written.
-    ensures started { IsStarted planner (F.content files.old) (F.faults files.old) (F.faults files.new) (files_of words.now) (O.written out.old) (O.written out.new) }
-
-    // What the words and the told files call for comes, unless a file failed to be read, writing failed or memory ran out.
-    ensures due { (called : Result Answers Stopped) → IsDue planner (F.content files.old) (F.faults files.old) (F.faults files.new) (files_of words.now) called
-        → Ends planner called (O.written out.old) (O.written out.new) (O.faults out.old) (O.faults out.new) result.code }
+    ensures { IsPlanRun (outside_seen words.now (files_seen F.content F.faults files.old files.new) (output_seen O.written O.faults out.old out.new)) result.code }
 {
     run(alloc, words, files, out)
 }

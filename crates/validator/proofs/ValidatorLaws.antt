@@ -1,6 +1,5 @@
--- The validator's answers keep to the laws of a program, and each status is that of some answers.
-use Rattle.std.proofs.Common.{◌≡◌, ◌⊎◌, inl, inr, ℕ, ◌<◌, List, [], ◌∷◌, Option, Some, None, Ok, refl, sym, ◌∙◌, ap, ap₂, subst, arith}
-use Rattle.std.specs.Io.KnownBytes.{Appends}
+-- The validator's answers: a task and a plan's text allow one, and each status is that of some answers.
+use Rattle.std.proofs.Common.{◌≡◌, ◌⊎◌, inl, inr, ℕ, ◌<◌, List, [], ◌∷◌, Some, None, Ok, refl, sym, ◌∙◌, ap, ap₂, subst, arith}
 use Rattle.pddl_form.specs.declared.fault.Fault.{Fault}
 use Rattle.pddl_form.specs.Judged.{good, noted}
 use Rattle.pddl_form.proofs.Judging.{noted-good}
@@ -16,18 +15,22 @@ use Rattle.plan_judge.specs.Outcome.{outcome_of}
 use Rattle.plan_judge.specs.Written.{IsValid}
 use Rattle.plan_step.specs.Laws.{IsRefutal}
 use Rattle.plan_judge.specs.Laws.{FailPassesBits, PassesBits, MeansFail, Means}
-use Rattle.patty_run.specs.Inputs.{InputFile}
-use Rattle.patty_run.specs.Files.{AreHeld}
-use Rattle.patty_run.specs.Printed.{joined}
-use Rattle.patty_run.specs.Runs.{Decides}
-use Rattle.patty_run.specs.Statuses.{Comes, IsRefused}
-use Rattle.patty_run.proofs.StatusLaws.{IsLawful, Answered}
+use Rattle.patty_run.specs.Outside.{Outside}
+use Rattle.patty_run.specs.Printed.{Prints}
+use Rattle.patty_run.specs.Tasks.{IsTask}
+use Rattle.patty_run.specs.Causes.{Hold}
+use Rattle.patty_run.specs.Statuses.{Says, SaysRefused, EndsWithAnswer, GivesOut}
+use Rattle.patty_run.specs.inside.Runs.{Runs}
+use Rattle.patty_run.proofs.StatusLaws as statuses
+use Rattle.patty_run.proofs.DueLaws.{answers}
+use Rattle.patty_run.proofs.RunLaws.{is_run}
 use Rattle.validator.specs.declared.answer.Answer.{Answer}
 use Rattle.validator.specs.declared.answer.Answer.TheVariants as answer
+use Rattle.validator.specs.Words.{files_of}
 use Rattle.validator.specs.Lines.{lines, failure_status, outcome_status, status}
-use Rattle.validator.specs.Validator.{IsJudged, Judges, Answers, validator, IsAccepted, IsRejected, IsUndecided, SaysOf, SaysValid, SaysNotValid, SaysWide, RefusesPlan}
+use Rattle.validator.specs.Validator.{IsJudged, Judges, Allows, validator, IsAccepted, IsRejected, IsUndecided, SaysOutcome, RefusesPlan, IsFaultless, IsValRun}
 
--- ---- a task and a plan's text come to one answer
+-- ---- a task and a plan's text allow one answer
 
 some_is : (f g : Fault) → Some f ≡ Some g → f ≡ g
 some_is f g is = cc is
@@ -51,17 +54,17 @@ module _ (task : TaskParts) (text : List ℕ) where
       let same = good_is is.plan also.plan (sym is.spelled ∙ also.spelled) in
       (is.outcome_is ∙ ap (outcome_of task) same ∙ sym also.outcome_is, is.steps_is ∙ ap flat_length same ∙ sym also.steps_is)
 
-  one_answer : (a b : Answer) → Judges task text a → Judges task text b → a ≡ b
-  one_answer (answer.PlanFault k p) (answer.PlanFault l q) is also =
+  one_judgement : (a b : Answer) → Judges task text a → Judges task text b → a ≡ b
+  one_judgement (answer.PlanFault k p) (answer.PlanFault l q) is also =
       let same = one_fault k p l q is also in ap₂ (λ (x y : ℕ). answer.PlanFault x y) same.0 same.1
-  one_answer (answer.PlanFault k p) (answer.Judged o s) is also = absurd (fault_not_judged k p o s is also)
-  one_answer (answer.Judged o s) (answer.PlanFault k p) is also = absurd (fault_not_judged k p o s also is)
-  one_answer (answer.Judged o s) (answer.Judged q t) is also =
+  one_judgement (answer.PlanFault k p) (answer.Judged o s) is also = absurd (fault_not_judged k p o s is also)
+  one_judgement (answer.Judged o s) (answer.PlanFault k p) is also = absurd (fault_not_judged k p o s also is)
+  one_judgement (answer.Judged o s) (answer.Judged q t) is also =
       let same = one_judged o q s t is also in ap₂ (λ (x : Outcome) (y : ℕ). answer.Judged x y) same.0 same.1
 
-one : (task : TaskParts) (more : List (List ℕ)) (a b : Answer) → Answers task more a → Answers task more b → a ≡ b
-one task [] a b is also = absurd is
-one task (text ∷ more) a b is also = one_answer task text a b is also
+pub one_answer : (task : TaskParts) (more : List (List ℕ)) (a b : Answer) → Allows task more a → Allows task more b → a ≡ b
+one_answer task [] a b is also = absurd is
+one_answer task (text ∷ more) a b is also = one_judgement task text a b is also
 
 -- ---- statuses
 
@@ -80,12 +83,13 @@ outcome_low (outcome.PartFails e) = failure_low e.fail.fail
 outcome_low outcome.GoalFails = omega arith
 outcome_low (outcome.GoalWide w) = omega arith
 
-free : (a : Answer) → (status a < 4) ⊎ (7 < status a)
+free : statuses.IsFree validator
 free (answer.PlanFault kind place) = inl (omega arith)
 free (answer.Judged o steps) = let low = outcome_low o in inl (omega (arith, low))
 
-pub lawful : IsLawful validator
-lawful = record { one = one; free = free }
+low : (a : Answer) → status a < 8
+low (answer.PlanFault kind place) = omega arith
+low (answer.Judged o steps) = let small = outcome_low o in omega (arith, small)
 
 -- ---- what an outcome says, by its status
 
@@ -136,53 +140,70 @@ undecided task plan (outcome.GoalWide w) is means = means
 
 -- ---- what a run says, by its status
 
-module _ (content : List ℕ → Option (List ℕ)) (named : Option (List InputFile)) (old new : Option (List ℕ)) where
-  abbrev AnswerComes : Answer → Type 0
-  AnswerComes a = Comes validator content named old new (Ok a)
-
-  module _ (IsSo : TaskParts → List Part → Outcome → Type 0) (code : ℕ)
-      (so : (task : TaskParts) (plan : List Part) (o : Outcome) → outcome_status o ≡ code → Means task plan o → IsSo task plan o) where
-    says_of : (files : List InputFile) (right : named ≡ Some files) (o : Outcome) (steps : ℕ) → Appends old new (joined (lines (answer.Judged o steps))) → outcome_status o ≡ code
-        → (contents : List (List ℕ)) → AreHeld content files contents → Decides validator contents (Ok (answer.Judged o steps)) → SaysOf content named old new IsSo
-    says_of files right o steps printed is [] held decides = absurd decides
-    says_of files right o steps printed is (domain ∷ []) held decides = absurd decides
-    says_of files right o steps printed is (domain ∷ problem ∷ []) held decides = absurd decides.is
-    says_of files right o steps printed is (domain ∷ problem ∷ text ∷ more) held decides = record {
-      files = files;
-      right = right;
+module _ (outside : Outside) where
+  module _ (IsSo : TaskParts → List Part → Outcome → Type 0) (k : ℕ)
+      (so : (task : TaskParts) (plan : List Part) (o : Outcome) → outcome_status o ≡ k → Means task plan o → IsSo task plan o) where
+    outcome_of_texts : (o : Outcome) (steps : ℕ) → outcome_status o ≡ k → Prints outside.output (lines (answer.Judged o steps)) → (domain problem : List ℕ) (more : List (List ℕ))
+        → Hold outside.files (files_of outside.words) (domain ∷ problem ∷ more) → (task : TaskParts) → IsTask domain problem task → Allows task more (answer.Judged o steps) → SaysOutcome outside IsSo
+    outcome_of_texts o steps is printed domain problem [] held task is_task allowed = absurd allowed
+    outcome_of_texts o steps is printed domain problem (text ∷ more) held task is_task allowed = record {
       domain = domain;
       problem = problem;
       text = text;
       more = more;
       held = held;
-      task = decides.task;
-      is_task = decides.is_task;
-      plan = decides.is.plan;
-      spelled = decides.is.spelled;
+      task = task;
+      is_task = is_task;
+      plan = allowed.plan;
+      spelled = allowed.spelled;
       verdict = o;
-      is_verdict = decides.is.outcome_is;
-      comes = decides.is.comes;
-      is_so = so decides.task decides.is.plan o is decides.is.means;
-      printed = subst (λ (n : ℕ). Appends old new (joined (lines (answer.Judged o n)))) decides.is.steps_is printed;
+      is_verdict = allowed.outcome_is;
+      comes = allowed.comes;
+      is_so = so task allowed.plan o is allowed.means;
+      printed = subst (λ (n : ℕ). Prints outside.output (lines (answer.Judged o n))) allowed.steps_is printed;
     }
 
-    says_at : code < 3 → (a : Answer) → status a ≡ code → AnswerComes a → SaysOf content named old new IsSo
-    says_at low (answer.PlanFault kind place) is comes = absurd (omega (arith, is, low))
-    says_at low (answer.Judged o steps) is comes = says_of comes.files comes.right o steps comes.printed is comes.reads.contents comes.reads.held comes.reads.decides
+    says_outcome : k < 3 → (a : Answer) → status a ≡ k → Says validator outside (Ok a) → SaysOutcome outside IsSo
+    says_outcome small (answer.PlanFault kind place) is says = absurd (omega (arith, is, small))
+    says_outcome small (answer.Judged o steps) is says =
+        let has = says.caused in
+        outcome_of_texts o steps is says.printed has.domain has.problem has.more has.held has.task has.is_task has.allowed
 
-  pub says_valid : Answered validator content named old new 0 → SaysValid content named old new
-  says_valid is = says_at IsAccepted 0 accepted (omega arith) is.answer is.status_is is.comes
+  plan_refused_at : (a : Answer) → status a ≡ 3 → Says validator outside (Ok a) → RefusesPlan outside
+  plan_refused_at (answer.PlanFault kind place) is says = (kind, place, says)
+  plan_refused_at (answer.Judged o steps) is says = let small = outcome_low o in absurd (omega (arith, small, is))
 
-  pub says_not_valid : Answered validator content named old new 1 → SaysNotValid content named old new
-  says_not_valid is = says_at IsRejected 1 rejected (omega arith) is.answer is.status_is is.comes
+  refused_at : SaysRefused validator outside ⊎ statuses.SaysAnswer validator outside 3 → SaysRefused validator outside ⊎ RefusesPlan outside
+  refused_at (inl is) = inl is
+  refused_at (inr is) = inr (plan_refused_at is.answer is.status_is is.says)
 
-  pub says_wide : Answered validator content named old new 2 → SaysWide content named old new
-  says_wide is = says_at IsUndecided 2 undecided (omega arith) is.answer is.status_is is.comes
+  -- a text that spells a plan has no fault
+  decided : (task : TaskParts) (text : List ℕ) (plan : List Part) → plan_judged (names_of task) text ≡ good plan → (a : Answer) → Judges task text a → status a < 3
+  decided task text plan spelled (answer.PlanFault kind place) first =
+      let none : noted None (plan_judged (names_of task) text) ≡ None = ap (noted None) spelled ∙ noted-good None plan in
+      absurd (cc (none, first.first))
+  decided task text plan spelled (answer.Judged o steps) judged = outcome_low o
 
-  plan_refused_at : (a : Answer) → status a ≡ 3 → AnswerComes a → RefusesPlan content named old new
-  plan_refused_at (answer.PlanFault kind place) is comes = record { kind = kind; place = place; comes = comes }
-  plan_refused_at (answer.Judged o steps) is comes = let low = outcome_low o in absurd (omega (arith, low, is))
+  completes : (code : ℕ) (is : IsFaultless outside) → EndsWithAnswer validator outside code is.task (is.text ∷ []) ⊎ GivesOut validator outside code → (code < 3) ⊎ (code ≡ 7)
+  completes code is (inl (a, allowed, ends)) =
+      let small = decided is.task is.text is.plan is.spelled a allowed in
+      let same : code ≡ status a = ends.status in
+      inl (omega (arith, small, same))
+  completes code is (inr (inl failed)) = absurd (is.no_fault failed.1)
+  completes code is (inr (inr memory)) = inr memory
 
-  pub refused : IsRefused validator content named old new ⊎ Answered validator content named old new 3 → IsRefused validator content named old new ⊎ RefusesPlan content named old new
-  refused (inl is) = inl is
-  refused (inr is) = inr (plan_refused_at is.answer is.status_is is.comes)
+  module _ (code : ℕ) (run : Runs validator outside code) where
+    says : (IsSo : TaskParts → List Part → Outcome → Type 0) (k : ℕ)
+        → ((task : TaskParts) (plan : List Part) (o : Outcome) → outcome_status o ≡ k → Means task plan o → IsSo task plan o) → k < 3 → code ≡ k → SaysOutcome outside IsSo
+    says IsSo k so small is = let a = statuses.answered validator free outside code run k small is in says_outcome IsSo k so small a.answer a.status_is a.says
+
+    pub is_val_run : IsValRun outside code
+    is_val_run = record {
+      valid = says IsAccepted 0 accepted (omega arith);
+      invalid = says IsRejected 1 rejected (omega arith);
+      wide = says IsUndecided 2 undecided (omega arith);
+      refused = λ is. refused_at (statuses.refused validator free outside code run is);
+      never = λ is. let small = statuses.at_most validator free outside code run low in omega (arith, small, is);
+      complete = λ is. completes code is (answers validator outside code run is.task (is.text ∷ []) is.given);
+      run = is_run validator free outside code run;
+    }

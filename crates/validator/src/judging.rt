@@ -1,9 +1,10 @@
 //! Three texts to an answer: the task of a domain and a problem, the plan, and its judgement.
 ghost use Rattle.std.specs.Prelude.{◌≤◌, [], ◌∷◌, length, IfOk};
-ghost use Rattle.patty_run.specs.Runs.{TextsDecide};
+ghost use Rattle.patty_run.specs.inside.Runs.{TextsDecide};
 ghost use Rattle.validator.specs.Validator.{Judges, validator};
 
 use crate::answer::Answer;
+use patty_io::LIMIT;
 use patty_run::{Stop, read_task};
 use pddl_task::Task;
 use plan_judge::judge_plan;
@@ -12,7 +13,7 @@ use std::alloc::{AllocError, Global};
 
 /// The judgement of a plan's text.
 fn judge_text(alloc: Global, task: &Task, text: &[u8]) -> Result<Answer, AllocError>
-    requires { length text.now ≤ 67108864 }
+    requires { length text.now ≤ LIMIT }
     ensures { IfOk result (Judges task.now text.now) }
 {
     let plan = match read_plan(alloc, task, text) {
@@ -32,9 +33,9 @@ pub fn judge_texts(
     problem: &[u8],
     plan: &[u8],
 ) -> Result<Answer, Stop>
-    requires domain_small { length domain.now ≤ 67108864 }
-    requires problem_small { length problem.now ≤ 67108864 }
-    requires plan_small { length plan.now ≤ 67108864 }
+    requires domain_small { length domain.now ≤ LIMIT }
+    requires problem_small { length problem.now ≤ LIMIT }
+    requires plan_small { length plan.now ≤ LIMIT }
     ensures { TextsDecide validator domain.now problem.now (plan.now ∷ []) result }
 {
     let task = match read_task(alloc, domain, problem) {

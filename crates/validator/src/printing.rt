@@ -1,7 +1,9 @@
 //! The line of a verdict, and the status of the run.
 ghost use Rattle.std.specs.Prelude.{◌≡◌};
-ghost use Rattle.patty_run.specs.Printed.{joined, PutsAll, PrintsAs};
-ghost use Rattle.patty_run.specs.Runs.{lines_of, status_of};
+ghost use Rattle.patty_run.specs.Outside.{output_seen};
+ghost use Rattle.patty_run.specs.Printed.{joined, PutsAll};
+ghost use Rattle.patty_run.specs.Programs.{lines_of, status_of};
+ghost use Rattle.patty_run.specs.inside.Runs.{PrintsAs};
 ghost use Rattle.validator.specs.Lines as lines;
 ghost use Rattle.validator.specs.Validator.{validator};
 
@@ -16,7 +18,7 @@ use std::alloc::Global;
 const USAGE: &str = "usage: patty_val DOMAIN PROBLEM PLAN\n";
 
 fn put_answer<O: Sink>(alloc: Global, answer: &Answer, out: &mut O) -> Result<(), SinkFail>
-    ensures { PutsAll (O.written out.old) (O.written out.new) (O.faults out.old) (O.faults out.new) (joined (lines.lines answer.now)) result }
+    ensures { PutsAll (output_seen O.written O.faults out.old out.new) (joined (lines.lines answer.now)) result }
 {
     let Ok(line) = line_of(alloc, answer) else {
         return Err(SinkFail::Memory);
@@ -62,7 +64,7 @@ fn put_verdict<O: Sink>(
     verdict: &Result<Answer, Stop>,
     out: &mut O,
 ) -> Result<(), SinkFail>
-    ensures { PutsAll (O.written out.old) (O.written out.new) (O.faults out.old) (O.faults out.new) (joined (lines_of validator verdict.now)) result }
+    ensures { PutsAll (output_seen O.written O.faults out.old out.new) (joined (lines_of validator verdict.now)) result }
 {
     match verdict {
         Ok(answer) => put_answer(alloc, answer, out),
@@ -81,7 +83,7 @@ fn status_of_verdict(verdict: &Result<Answer, Stop>) -> u8
 
 /// Prints a verdict.
 pub fn print<O: Sink>(alloc: Global, verdict: &Result<Answer, Stop>, out: &mut O) -> Status
-    ensures { PrintsAs (O.written out.old) (O.written out.new) (O.faults out.old) (O.faults out.new) (joined (lines_of validator verdict.now)) (status_of validator verdict.now) result.code }
+    ensures { PrintsAs (output_seen O.written O.faults out.old out.new) (lines_of validator verdict.now) (status_of validator verdict.now) result.code }
 {
     let written = put_verdict(alloc, verdict, out);
     finish(written, status_of_verdict(verdict))

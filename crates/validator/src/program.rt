@@ -1,17 +1,14 @@
 //! The validator's top call: first a verdict on the words, the files, the texts and the plan, then its line.
 //!
-//! `val_run` carries a clause for each status, and one that says which verdict is due.
-ghost use Rattle.std.specs.Prelude.{◌≡◌, ◌≢◌, ◌⊎◌, [], ◌∷◌, Result, Some};
-ghost use Rattle.patty_io.specs.Faults.{Rose};
+//! `val_run` carries one word, `IsValRun`: a sentence for each status, and what is due.
+ghost use Rattle.std.specs.Prelude.{[], ◌∷◌, Some};
 ghost use Rattle.patty_run.specs.declared.input.Input.TheVariants as input;
-ghost use Rattle.patty_run.specs.declared.stop.Stop.{Stop as Stopped};
 ghost use Rattle.patty_run.specs.Inputs.{input_file};
-ghost use Rattle.patty_run.specs.Counts.{AreSame, KeepsCounts};
-ghost use Rattle.patty_run.specs.Runs.{Causes};
-ghost use Rattle.patty_run.specs.Statuses.{Runs, IsRefused, IsUsage, FailsToRead, IsStarted, IsDue, Ends};
-ghost use Rattle.validator.specs.declared.answer.Answer.{Answer as Answers};
+ghost use Rattle.patty_run.specs.Outside.{files_seen, output_seen, outside_seen};
+ghost use Rattle.patty_run.specs.Causes.{Causes, Counts};
+ghost use Rattle.patty_run.specs.inside.Runs.{Runs};
 ghost use Rattle.validator.specs.Words.{files_of};
-ghost use Rattle.validator.specs.Validator.{validator, SaysValid, SaysNotValid, SaysWide, RefusesPlan};
+ghost use Rattle.validator.specs.Validator.{validator, IsValRun};
 
 use crate::answer::Answer;
 use crate::judging::judge_texts;
@@ -27,8 +24,8 @@ fn judge_files<F: Shelf>(
     plan: &str,
     files: &mut F,
 ) -> Result<Answer, Stop>
-    ensures caused { Causes validator (F.content files.old) (F.faults files.old) (F.faults files.new) (Some (input_file input.Domain domain.now ∷ input_file input.Problem problem.now ∷ input_file input.Plan plan.now ∷ [])) result }
-    ensures counts { KeepsCounts (F.faults files.old) (F.faults files.new) result }
+    ensures caused { Causes (files_seen F.content F.faults files.old files.new) (Some (input_file input.Domain domain.now ∷ input_file input.Problem problem.now ∷ input_file input.Plan plan.now ∷ [])) validator result }
+    ensures counts { Counts (files_seen F.content F.faults files.old files.new) result }
 {
     let inputs = [
         NamedInput {
@@ -55,8 +52,8 @@ fn judge_files<F: Shelf>(
 }
 
 fn judge<F: Shelf>(alloc: Global, words: &[String], files: &mut F) -> Result<Answer, Stop>
-    ensures caused { Causes validator (F.content files.old) (F.faults files.old) (F.faults files.new) (files_of words.now) result }
-    ensures counts { KeepsCounts (F.faults files.old) (F.faults files.new) result }
+    ensures caused { Causes (files_seen F.content F.faults files.old files.new) (files_of words.now) validator result }
+    ensures counts { Counts (files_seen F.content F.faults files.old files.new) result }
 {
     match words {
         [domain, problem, plan] => judge_files(
@@ -71,7 +68,7 @@ fn judge<F: Shelf>(alloc: Global, words: &[String], files: &mut F) -> Result<Ans
 }
 
 fn run<F: Shelf, O: Sink>(alloc: Global, words: &[String], files: &mut F, out: &mut O) -> Status
-    ensures { Runs validator (F.content files.old) (F.faults files.old) (F.faults files.new) (files_of words.now) (O.written out.old) (O.written out.new) (O.faults out.old) (O.faults out.new) result.code }
+    ensures { Runs validator (outside_seen words.now (files_seen F.content F.faults files.old files.new) (output_seen O.written O.faults out.old out.new)) result.code }
 {
     let verdict = judge(alloc, words, files);
     print(alloc, &verdict, out)
@@ -87,29 +84,7 @@ pub fn val_run<F: Shelf, O: Sink>(
     files: &mut F,
     out: &mut O,
 ) -> Status
-    ensures valid { result.code ≡ 0 → SaysValid (F.content files.old) (files_of words.now) (O.written out.old) (O.written out.new) }
-    ensures invalid { result.code ≡ 1 → SaysNotValid (F.content files.old) (files_of words.now) (O.written out.old) (O.written out.new) }
-    ensures wide { result.code ≡ 2 → SaysWide (F.content files.old) (files_of words.now) (O.written out.old) (O.written out.new) }
-    ensures refused { result.code ≡ 3 → IsRefused validator (F.content files.old) (files_of words.now) (O.written out.old) (O.written out.new)
-        ⊎ RefusesPlan (F.content files.old) (files_of words.now) (O.written out.old) (O.written out.new) }
-    ensures usage { result.code ≡ 4 → IsUsage validator (F.content files.old) (files_of words.now) (O.written out.old) (O.written out.new) }
-    ensures read_fault { result.code ≡ 5 → FailsToRead validator (F.content files.old) (F.faults files.old) (F.faults files.new) (files_of words.now) (O.written out.old) (O.written out.new) }
-    ensures write_fault { result.code ≡ 6 → Rose (O.faults out.old) (O.faults out.new) }
-
-    // Some verdict has its cause, and its line is printed with its status, or a front of it.
-    ensures runs { Runs validator (F.content files.old) (F.faults files.old) (F.faults files.new) (files_of words.now) (O.written out.old) (O.written out.new) (O.faults out.old) (O.faults out.new) result.code }
-
-    // A failed write that the sink counts shows in the status, and so does a failed read that the shelf counts.
-    ensures written_well { result.code ≢ 6 → O.faults out.new ≡ O.faults out.old }
-    ensures read_well { result.code ≢ 5 → result.code ≢ 6 → result.code ≢ 7 → AreSame (F.faults files.old) (F.faults files.new) }
-
-    // Whatever the status, also after a failed write and where memory ran out, a front of the line of some
-    // verdict that has its cause was written.
-    ensures started { IsStarted validator (F.content files.old) (F.faults files.old) (F.faults files.new) (files_of words.now) (O.written out.old) (O.written out.new) }
-
-    // What the words and the told files call for comes, unless a file failed to be read, writing failed or memory ran out.
-    ensures due { (called : Result Answers Stopped) → IsDue validator (F.content files.old) (F.faults files.old) (F.faults files.new) (files_of words.now) called
-        → Ends validator called (O.written out.old) (O.written out.new) (O.faults out.old) (O.faults out.new) result.code }
+    ensures { IsValRun (outside_seen words.now (files_seen F.content F.faults files.old files.new) (output_seen O.written O.faults out.old out.new)) result.code }
 {
     run(alloc, words, files, out)
 }

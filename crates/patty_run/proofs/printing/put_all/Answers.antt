@@ -1,5 +1,5 @@
 use Rattle.std.proofs.Common.{ℕ, Err, subst, ◌∙◌}
-use Rattle.patty_io.specs.Sink.{HasCause}
+use Rattle.patty_io.specs.Sink.{PutCounts}
 use Rattle.patty_run.proofs.PrintLaws.{put_more, put_stops}
 use Rattle.patty_run.proofs.printing.put_all.Goals as goal
 
@@ -11,5 +11,5 @@ loop-piece-preserved g c = record {
 
 pub returns-in-Err : goal.returns-in-Err
 returns-in-Err g c =
-    let cause = subst (λ (before : ℕ). HasCause {T = Unit {0}} before (g.O.Sink.faults c.put.new.self) (Err c.in-Err.fail)) c.loop-piece.invariant.same c.in-Err.ensures.cause in
-    put_stops _ _ _ _ _ _ _ c.loop-piece-test.true c.as_bytes.ensures.value c.loop-piece.invariant.printed _ _ c.in-Err.fail c.in-Err.ensures.bytes cause
+    let counts = subst (λ (before : ℕ). PutCounts {T = Unit {0}} before (g.O.Sink.faults c.put.new.self) (Err c.in-Err.fail)) c.loop-piece.invariant.same c.in-Err.ensures.cause in
+    put_stops _ _ _ _ _ _ _ c.loop-piece-test.true c.as_bytes.ensures.value c.loop-piece.invariant.printed _ _ c.in-Err.fail c.in-Err.ensures.bytes counts

@@ -2,4 +2,4 @@ use Rattle.patty_run.proofs.PrintLaws.{put_one}
 use Rattle.patty_run.proofs.printing.put_bytes.Goals as goal
 
 pub returns : goal.returns
-returns g c = put_one _ _ _ _ _ c.put.result c.put.ensures.bytes c.put.ensures.cause
+returns g c = put_one _ _ c.put.result c.put.ensures.bytes c.put.ensures.cause
