@@ -1,8 +1,10 @@
 //! Two texts to their task: each is read by itself, the domain first, and then they are linked.
-ghost use Rattle.std.specs.Prelude.{◌≤◌, length};
+ghost use Rattle.std.specs.Prelude.{◌≤◌, length, IfOk, IsTrue};
 ghost use Rattle.sexpr.specs.declared.fault.Source.TheVariants as source;
 ghost use Rattle.pddl_domain.specs.Domain.{domain_form};
+ghost use Rattle.pddl_domain.specs.Grammar.{is_domain};
 ghost use Rattle.pddl_problem.specs.Problem.{problem_form};
+ghost use Rattle.pddl_problem.specs.Grammar.{is_problem};
 ghost use Rattle.patty_run.specs.Texts.{ReadsText};
 ghost use Rattle.patty_run.specs.Tasks.{ReadsTask};
 
@@ -17,7 +19,8 @@ use typing::link;
 
 fn read_domain_text(alloc: Global, bytes: &[u8]) -> Result<DomainAst, TextRefusal>
     requires { length bytes.now ≤ LIMIT }
-    ensures { ReadsText domain_form source.Domain bytes.now result }
+    ensures reads { ReadsText domain_form source.Domain bytes.now result }
+    ensures grammar { IfOk result (λ made. IsTrue (is_domain made)) }
 {
     let tree = match read(alloc, Source::Domain, bytes) {
         Ok(tree) => tree,
@@ -28,7 +31,8 @@ fn read_domain_text(alloc: Global, bytes: &[u8]) -> Result<DomainAst, TextRefusa
 
 fn read_problem_text(alloc: Global, bytes: &[u8]) -> Result<ProblemAst, TextRefusal>
     requires { length bytes.now ≤ LIMIT }
-    ensures { ReadsText problem_form source.Problem bytes.now result }
+    ensures reads { ReadsText problem_form source.Problem bytes.now result }
+    ensures grammar { IfOk result (λ made. IsTrue (is_problem made)) }
 {
     let tree = match read(alloc, Source::Problem, bytes) {
         Ok(tree) => tree,

@@ -3,8 +3,8 @@ use Rattle.pddl_problem.specs.Problem.{problem_form}
 use Rattle.patty_run.proofs.TextLaws.{unread, read}
 use Rattle.patty_run.proofs.texts.read_problem_text.Goals as goal
 
-pub returns-in-Err : goal.returns-in-Err
-returns-in-Err c = unread problem_form c.args.bytes.now source.Problem _ c.in-Err.ensures
+pub returns-in-Err-clause-reads : goal.returns-in-Err-clause-reads
+returns-in-Err-clause-reads c = unread problem_form c.args.bytes.now source.Problem _ c.in-Err.ensures
 
-pub returns : goal.returns
-returns c = read problem_form c.args.bytes.now source.Problem _ _ c.in-Ok.ensures c.read_problem.ensures.answers
+pub returns-clause-reads : goal.returns-clause-reads
+returns-clause-reads c = read problem_form c.args.bytes.now source.Problem _ _ c.in-Ok.ensures c.read_problem.ensures.answers
