@@ -1,6 +1,5 @@
 -- The names whose taking failed.
-use Rattle.std.specs.Prelude.{ℕ, ◌+◌, ◌<◌, cond, vec_len, List, [], ◌∷◌, String, string_bytes, bytes_eq}
-use Rattle.std.specs.Vec.{vec_capacity}
+use Rattle.std.specs.Prelude.{ℕ, ◌+◌, cond, List, [], ◌∷◌, String, string_bytes, bytes_eq}
 use Rattle.std.specs.declared.alloc.Global.{Global}
 use Rattle.patty_io.specs.Faults.{capped}
 use Rattle.patty_io.specs.declared.failures.Failures.{Failures}
@@ -13,7 +12,3 @@ count_of (s ∷ names) name = count_of names name + cond (bytes_eq (string_bytes
 -- how often taking a name failed
 abbrev pub failures_of : Failures → List ℕ → ℕ
 failures_of failures name = capped (count_of failures.names.items name)
-
--- one more name has room
-abbrev pub HasRoom : Failures → Type 0
-HasRoom failures = vec_len failures.names < vec_capacity failures.names

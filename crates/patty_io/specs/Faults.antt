@@ -5,7 +5,7 @@ use Rattle.std.specs.Prelude.{◌≡◌, ℕ, ◌+◌, ◌-◌, ◌^◌, ◌≤�
 abbrev pub last_count : ℕ
 last_count = 2 ^ 64 - 1
 
--- a count that stands at its last value where it would pass it
+-- a count that stands at its last value where it would grow beyond it
 abbrev pub capped : ℕ → ℕ
 capped n = min n last_count
 

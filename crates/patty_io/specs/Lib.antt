@@ -3,3 +3,4 @@ pub mod Failures
 pub mod Shelf
 pub mod Sink
 pub mod Memory
+pub mod inside

@@ -1,5 +1,5 @@
 -- What writing a piece leaves (this project).
-use Rattle.std.specs.Prelude.{◌≡◌, ℕ, ◌≤◌, Bool, true, false, List, take, Ok, Err, Option, Result}
+use Rattle.std.specs.Prelude.{◌≡◌, ℕ, List, take, Ok, Err, Option, Result}
 use Rattle.std.specs.Io.KnownBytes.{Appends}
 use Rattle.patty_io.specs.declared.sink.SinkFail.{SinkFail}
 use Rattle.patty_io.specs.declared.sink.SinkFail.TheVariants.{Failed, Memory}
@@ -14,11 +14,6 @@ PutFails Memory old new bytes = new ≡ old
 abbrev pub Puts : {T : Type 0} → Option (List ℕ) → Option (List ℕ) → Result T SinkFail → List ℕ → Type 0
 Puts old new (Ok done) bytes = Appends old new bytes
 Puts old new (Err fail) bytes = PutFails fail old new bytes
-
--- the bytes are appended, or a front of them
-abbrev pub WritesWhole : Option (List ℕ) → Option (List ℕ) → List ℕ → Bool → Type 0
-WritesWhole old new bytes true = Appends old new bytes
-WritesWhole old new bytes false = (n : ℕ) × Appends old new (take n bytes)
 
 -- the count of faults rose where the call failed, and else stays
 abbrev pub PutCounts : {T : Type 0} → ℕ → ℕ → Result T SinkFail → Type 0

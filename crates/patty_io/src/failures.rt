@@ -13,7 +13,8 @@ pub struct Failures {
 }
 
 impl Failures {
-    ghost use Rattle.patty_io.specs.Failures.{failures_of, HasRoom};
+    ghost use Rattle.patty_io.specs.Failures.{failures_of};
+    ghost use Rattle.patty_io.specs.inside.Room.{HasRoom};
 
     pub fn new(alloc: Global) -> Failures
         ensures { result.names.items ≡ [] }

@@ -1,7 +1,8 @@
 //! The standard output, as a sink.
 ghost use Rattle.std.specs.Prelude.{◌≡◌, None};
 ghost use Rattle.patty_io.specs.Faults.{capped};
-ghost use Rattle.patty_io.specs.Sink.{PutCounts, Puts, WritesWhole};
+ghost use Rattle.patty_io.specs.Sink.{PutCounts, Puts};
+ghost use Rattle.patty_io.specs.inside.Writing.{WritesWhole};
 
 use crate::{Sink, SinkFail};
 use std::io;

@@ -1,4 +1,8 @@
 -- What the status of a run says, in every program, and what is due (this project).
+--
+-- A program names files by its words, allows answers, and prints each answer with a status (`Programs`); `Causes` says by
+-- cases why it comes to a verdict. `Prints`: these lines were written, and nothing else. `AreTold`: each file is told to hold
+-- its bytes, which aren't too many, and taking it didn't fail. `IsTask`, `IsTaskFault`: what two texts spell.
 use Rattle.std.specs.Prelude.{◌≡◌, ◌≢◌, ◌⊎◌, ℕ, List, ◌∷◌, Option, Some, None, Result, Ok, Err}
 use Rattle.sexpr.specs.declared.fault.TextFault.{TextFault}
 use Rattle.pddl_task.specs.declared.parts.TaskParts.{TaskParts}

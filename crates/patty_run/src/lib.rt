@@ -2,8 +2,8 @@
 //! fault, and a verdict is printed line by line.
 //!
 //! Begin with `Stop`, why a run comes to no answer; `take_inputs` and `read_task` are what may stop it, and `put_all`,
-//! `put_stop` and `finish` print its verdict. A program adds its answers, which its `Program` in `specs/` describes; the laws in
-//! `proofs/` then say what each status of a run means.
+//! `put_stop` and `finish` print its verdict. A program adds its answers, by a `Program` of `specs/Programs`; what the status of its
+//! run then says is `IsRun` of `specs/Statuses`.
 #![tactic(auto)]
 
 mod input;
