@@ -1,5 +1,5 @@
 -- What the calls of a shelf say of the files that are taken.
-use Rattle.std.proofs.Common.{◌≡◌, refl, inl, inr, ℕ, ◌+◌, ◌<◌, ◌≤◌, List, [], ◌∷◌, ◌++◌, length, map, take, drop, get_or, take-append-drop, Option, Vec, Global, Some, None, ◌∙◌, ap, sym, subst, arith}
+use Rattle.std.proofs.Common.{◌≡◌, refl, inl, inr, ℕ, ◌+◌, ◌<◌, List, [], ◌∷◌, ◌++◌, length, map, take, drop, get_or, take-append-drop, Option, Vec, Global, Some, None, ◌∙◌, ap, sym, subst, arith}
 use Rattle.std.proofs.lemmas.List.{length-take, take_more, drop_more, map-append}
 use Rattle.patty_io.specs.Shelf.{limit, TellsMore}
 use Rattle.patty_io.specs.Faults.{Rose}
@@ -43,10 +43,13 @@ of_run : (files : Files) (between : List ℕ → Option (List ℕ)) (mid : List 
     → ((of : List ℕ) → between of ≡ files.content of) → ((of : List ℕ) → mid of ≡ files.failed_before of)
     → IsNotTaken (record { content = between; failed_before = mid; failed = files.failed }) name input why → IsNotTaken files name input why
 of_run files between mid name input stop.Usage told counted is = absurd is
-of_run files between mid name input (stop.ReadFault i) told counted is = (is.0, record {
-  rose = subst (λ (n : ℕ). Rose n (files.failed name)) (counted name) is.1.rose;
-  others = λ other differs. is.1.others other differs ∙ counted other;
-})
+of_run files between mid name input (stop.ReadFault i) told counted is = (
+  is.0,
+  record {
+    rose = subst (λ (n : ℕ). Rose n (files.failed name)) (counted name) is.1.rose;
+    others = λ other differs. is.1.others other differs ∙ counted other;
+  },
+)
 of_run files between mid name input (stop.Long i) told counted is = (is.0, subst IsTooLong (told name) is.1)
 of_run files between mid name input (stop.Fault fault) told counted is = absurd is
 of_run files between mid name input stop.Memory told counted is = tt

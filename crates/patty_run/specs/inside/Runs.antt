@@ -2,7 +2,7 @@
 use Rattle.std.specs.Prelude.{◌≡◌, ◌⊎◌, ℕ, List, Result, Ok, Err}
 use Rattle.patty_run.specs.declared.stop.Stop.{Stop}
 use Rattle.patty_run.specs.Outside.{Output, Outside, WriteFails, NoWriteFails}
-use Rattle.patty_run.specs.Printed.{joined, Prints, PrintsFront}
+use Rattle.patty_run.specs.Printed.{Prints, PrintsFront}
 use Rattle.patty_run.specs.Tasks.{IsTask, IsNoTask}
 use Rattle.patty_run.specs.Programs.{Program, lines_of, status_of}
 use Rattle.patty_run.specs.Causes.{Causes, Counts}
