@@ -9,7 +9,7 @@ ghost use Rattle.patty_io.specs.Shelf.{Takes, TakeCounts};
 use thiserror::Error;
 
 /// The length of the longest file that is taken, in bytes: 64 MiB. Each place in a text, and the number of each thing that
-/// it names, then fits in 32 bits, and a file without an end costs no more memory than that.
+/// it names, then fits in 32 bits, and a file without an end takes bounded memory.
 pub const LIMIT: usize = 67_108_864;
 
 /// Why a file wasn't taken.
