@@ -1,0 +1,178 @@
+-- From marks to a learned clause.
+use Rattle.std.proofs.Common.{◌≡◌, ℕ, zero, suc, ◌<◌, ◌+◌, Bool, true, false, not, List, [], ◌∷◌, ◌++◌, map, length, Option, Some, None, refl, sym, ap, arith, inl, inr, subst, ◌∙◌, ◌⊎◌}
+use Rattle.std.specs.List.{slice_get, Contains}
+use Rattle.std.proofs.lemmas.Option.{same_Some}
+use Rattle.std.proofs.lemmas.Bool.{cases_eq}
+use Rattle.std.proofs.lemmas.List.Elements.{Contains-append_cases, Contains-append_right, Contains-push_cases}
+use Rattle.formula.specs.declared.atom.Lit.{Lit}
+use Rattle.formula.specs.Reading.{opposite}
+use Rattle.clause_core.specs.declared.trail.Entry.{Entry}
+use Rattle.clause_core.specs.Standing.{Stands, IsApart}
+use Rattle.theory_law.specs.Units.{Follows}
+use Rattle.clause_core.specs.Learning.{IsUnit, IsFalse, Propagates}
+use Rattle.clause_core.specs.Analysis.{IsResolved, IsKept, IsAnalyzed}
+use Rattle.clause_core.proofs.Gets.{get-within}
+
+pub opposite-opposite : (l : Lit) → opposite (opposite l) ≡ l
+opposite-opposite l =
+    let twice : (b : Bool) → not (not b) ≡ b = λ b. elim b as (λ b. not (not b) ≡ b) [ true ↦ refl | false ↦ refl ] in
+    ap (λ (b : Bool). let x : Lit = record { boolean = l.boolean; pos = b } in x) (twice l.pos)
+
+pub not_opposite : (l : Lit) → l ≡ opposite l → ⊥
+not_opposite l e =
+    let differs : (b : Bool) → b ≡ not b → ⊥ = λ b. elim b as (λ b. b ≡ not b → ⊥) [ true ↦ λ h. cc | false ↦ λ h. cc ] in
+    differs l.pos (ap (λ (x : Lit). x.pos) e)
+
+-- one place has one literal
+pub same_stand : (entries : List Entry) (p : ℕ) (l m : Lit) → Stands entries p l → Stands entries p m → l ≡ m
+same_stand entries p l m a b = ap (λ (x : Entry). x.lit) (same_Some _ _ (sym a.1 ∙ b.1))
+
+pub in_cons : (x y : Lit) (xs : List Lit) → Contains (x ∷ xs) y → (x ≡ y) ⊎ Contains xs y
+in_cons x y xs h = elim (Contains-append_cases (x ∷ []) xs y h) [
+  | inl a ↦ elim (Contains-push_cases [] x y a) [ inl n ↦ absurd (omega (arith, n.1)) | inr e ↦ inl e ]
+  | inr b ↦ inr b
+]
+
+pub cons_in : (x y : Lit) (xs : List Lit) → Contains xs y → Contains (x ∷ xs) y
+cons_in x y xs h = Contains-append_right (x ∷ []) xs y h
+
+pub cons_same : (x : Lit) (xs : List Lit) → Contains (x ∷ xs) x
+cons_same x xs = (0, omega arith, refl)
+
+pub in_opposites : (clause : List Lit) (l : Lit) → Contains clause l → Contains (map opposite clause) (opposite l)
+in_opposites [] l h = absurd (omega (arith, h.1))
+in_opposites (x ∷ clause) l h = elim (in_cons x l clause h) [
+  | inl e ↦ subst (λ (y : Lit). Contains (opposite x ∷ map opposite clause) (opposite y)) e (cons_same (opposite x) (map opposite clause))
+  | inr r ↦ cons_in (opposite x) (opposite l) (map opposite clause) (in_opposites clause l r)
+]
+
+pub from_opposites : (clause : List Lit) (l : Lit) → Contains (map opposite clause) l → Contains clause (opposite l)
+from_opposites [] l h = absurd (omega (arith, h.1))
+from_opposites (x ∷ clause) l h = elim (in_cons (opposite x) l (map opposite clause) h) [
+  | inl e ↦ subst (λ (y : Lit). Contains (x ∷ clause) y) (sym (opposite-opposite x) ∙ ap opposite e) (cons_same x clause)
+  | inr r ↦ cons_in x (opposite l) clause (from_opposites clause l r)
+]
+
+-- the literals that are true once the resolved places below i were propagated
+pub record IsReached (entries : List Entry) (marked resolved : List Bool) (i : ℕ) (truths : List Lit) : Type 0 where
+  pub sound : (l : Lit) → Contains truths l → (p : ℕ) × Stands entries p l × (slice_get marked p ≡ Some true) × ((slice_get resolved p ≡ Some false) ⊎ ((p < i) × (slice_get resolved p ≡ Some true)))
+  pub complete : (p : ℕ) (l : Lit) → Stands entries p l → slice_get marked p ≡ Some true → ((slice_get resolved p ≡ Some false) ⊎ (p < i)) → Contains truths l
+
+pub reached_start : (entries : List Entry) (marked resolved : List Bool) (clause : List Lit) → IsKept entries marked resolved clause → IsReached entries marked resolved 0 (map opposite clause)
+reached_start entries marked resolved clause k = record {
+  sound = λ l h.
+      let s = k.sound (opposite l) (from_opposites clause l h) in
+      (s.0, subst (λ (x : Lit). Stands entries s.0 x) (opposite-opposite l) s.1, s.2, inl s.3);
+  complete = λ p l s m r. elim r [
+    | inl f ↦ subst (λ (x : Lit). Contains (map opposite clause) x) (opposite-opposite l) (in_opposites clause (opposite l) (k.complete p l s m f))
+    | inr lt ↦ absurd (omega arith)
+  ];
+}
+
+pub reached_skip : (entries : List Entry) (marked resolved : List Bool) (i : ℕ) (truths : List Lit) → slice_get resolved i ≡ Some false → IsReached entries marked resolved i truths → IsReached entries marked resolved (i + 1) truths
+reached_skip entries marked resolved i truths unset h = record {
+  sound = λ l c. let s = h.sound l c in (s.0, s.1, s.2, elim s.3 [ inl f ↦ inl f | inr (lt, r) ↦ inr (omega arith, r) ]);
+  complete = λ p l s m r. elim r [
+    | inl f ↦ h.complete p l s m (inl f)
+    | inr lt ↦ elim (cases_eq p i) [
+      | inl same ↦ h.complete p l s m (inl (rw same unset))
+      | inr other ↦ h.complete p l s m (inr (omega arith))
+    ]
+  ];
+}
+
+pub reached_push : (entries : List Entry) (marked resolved : List Bool) (i : ℕ) (truths : List Lit) (lit : Lit) → slice_get resolved i ≡ Some true → slice_get marked i ≡ Some true → Stands entries i lit → IsReached entries marked resolved i truths → IsReached entries marked resolved (i + 1) (lit ∷ truths)
+reached_push entries marked resolved i truths lit was here at h = record {
+  sound = λ l c. elim (in_cons lit l truths c) [
+    | inl e ↦ (i, subst (λ (x : Lit). Stands entries i x) e at, here, inr (omega arith, was))
+    | inr r ↦ let s = h.sound l r in (s.0, s.1, s.2, elim s.3 [ inl f ↦ inl f | inr (lt, q) ↦ inr (omega arith, q) ])
+  ];
+  complete = λ p l s m r. elim r [
+    | inl f ↦ cons_in lit l truths (h.complete p l s m (inl f))
+    | inr lt ↦ elim (cases_eq p i) [
+      | inl same ↦
+          let is : lit ≡ l = same_stand entries i lit l at (subst (λ (q : ℕ). Stands entries q l) same s) in
+          subst (λ (x : Lit). Contains (lit ∷ truths) x) is (cons_same lit truths)
+      | inr other ↦ cons_in lit l truths (h.complete p l s m (inr (omega arith)))
+    ]
+  ];
+}
+
+-- the reason of a resolved place is unit
+pub unit_at : (clauses : List (List Lit)) (entries : List Entry) (marked resolved : List Bool) (i : ℕ) (truths : List Lit) → IsApart entries → IsReached entries marked resolved i truths → slice_get resolved i ≡ Some true → (r : IsResolved clauses entries marked i) → ((p : ℕ) → p < length entries → (slice_get resolved p ≡ Some true) ⊎ (slice_get resolved p ≡ Some false)) → IsUnit truths r.clause r.lit
+unit_at clauses entries marked resolved i truths apart h was r tests =
+    let here : Stands entries i r.lit = (Some r.reason, r.entry) in
+    let free : (l : Lit) → l.boolean ≡ r.lit.boolean → Contains truths l → ⊥ = λ l e c.
+    let s = h.sound l c in
+    let same : s.0 ≡ i = apart s.0 i l r.lit s.1 here e in
+    elim s.3 [
+      | inl f ↦ let f2 : slice_get resolved i ≡ Some false = subst (λ (q : ℕ). slice_get resolved q ≡ Some false) same f in absurd (cc)
+      | inr (lt, q) ↦ absurd (omega arith)
+    ] in
+    record {
+      within = r.within;
+      not_true = free r.lit refl;
+      not_false = free (opposite r.lit) refl;
+      others = λ m c ne.
+          let b = r.others m c ne in
+          elim (tests b.0 (get-within entries b.0 _ b.2.1)) [
+            | inl t ↦ h.complete b.0 (opposite m) b.2 b.3 (inr b.1)
+            | inr f ↦ h.complete b.0 (opposite m) b.2 b.3 (inl f)
+          ];
+    }
+
+pub propagates_push : (clauses : List (List Lit)) (hints : List ℕ) (before after : List Lit) (h : ℕ) (c : List Lit) (l : Lit) → Propagates clauses hints before after → slice_get clauses h ≡ Some c → IsUnit after c l → Propagates clauses (hints ++ h ∷ []) before (l ∷ after)
+propagates_push clauses [] before after h c l p e u = (c, e, l, subst (λ (x : List Lit). IsUnit x c l) p u, ap (λ (x : List Lit). l ∷ x) p)
+propagates_push clauses (k ∷ hints) before after h c l p e u =
+    (p.0, p.1, p.2, p.3, propagates_push clauses hints (p.2 ∷ before) after h c l p.4 e u)
+
+-- each place of a list of tests is one or the other
+pub tests_at : (tests : List Bool) (p : ℕ) → p < length tests → (slice_get tests p ≡ Some true) ⊎ (slice_get tests p ≡ Some false)
+tests_at [] p h = absurd (omega arith)
+tests_at (true ∷ tests) zero h = inl refl
+tests_at (false ∷ tests) zero h = inr refl
+tests_at (x ∷ tests) (suc p) h = tests_at tests p (omega arith)
+
+-- what the hints so far make true
+pub record IsPartial (clauses : List (List Lit)) (entries : List Entry) (marked resolved : List Bool) (clause : List Lit) (i : ℕ) (hints : List ℕ) : Type 0 where
+  pub truths : List Lit
+  pub units : Propagates clauses hints (map opposite clause) truths
+  pub reached : IsReached entries marked resolved i truths
+
+pub partial_start : {clauses : List (List Lit)} {entries : List Entry} {marked resolved : List Bool} {at : ℕ} {clause : List Lit} → IsAnalyzed clauses entries marked resolved at clause → IsPartial clauses entries marked resolved clause 0 []
+partial_start {entries = entries} {marked = marked} {resolved = resolved} {clause = clause} a = record { truths = map opposite clause; units = refl; reached = reached_start entries marked resolved clause a.kept }
+
+pub partial_skip : {clauses : List (List Lit)} {entries : List Entry} {marked resolved : List Bool} {clause : List Lit} {i : ℕ} {hints : List ℕ} → slice_get resolved i ≡ Some false → IsPartial clauses entries marked resolved clause i hints → IsPartial clauses entries marked resolved clause (i + 1) hints
+partial_skip unset h = record { truths = h.truths; units = h.units; reached = reached_skip _ _ _ _ _ unset h.reached }
+
+pub partial_push : {clauses : List (List Lit)} {entries : List Entry} {marked resolved : List Bool} {at : ℕ} {clause : List Lit} {i : ℕ} {hints : List ℕ} → IsAnalyzed clauses entries marked resolved at clause → slice_get resolved i ≡ Some true → IsPartial clauses entries marked resolved clause i hints → (reason : ℕ) (lit : Lit) → slice_get entries i ≡ Some (record { lit = lit; reason = Some reason }) → IsPartial clauses entries marked resolved clause (i + 1) (hints ++ reason ∷ [])
+partial_push {clauses = clauses} {entries = entries} {marked = marked} {resolved = resolved} {clause = clause} {i = i} {hints = hints} a was h reason lit e =
+    let r = a.closed i was in
+    let same : Some r.reason ≡ Some reason = ap (λ (x : Entry). x.reason) (same_Some _ _ (sym r.entry ∙ e)) in
+    let unit = unit_at clauses entries marked resolved i h.truths a.apart h.reached was r (λ p lt. tests_at resolved p (omega (arith, a.lengths))) in
+    let pushed = propagates_push clauses hints (map opposite clause) h.truths r.reason r.clause r.lit h.units r.at_reason unit in
+    record {
+      truths = r.lit ∷ h.truths;
+      units = subst (λ (n : ℕ). Propagates clauses (hints ++ n ∷ []) (map opposite clause) (r.lit ∷ h.truths)) (same_Some _ _ same) pushed;
+      reached = reached_push entries marked resolved i h.truths r.lit was r.itself (Some r.reason, r.entry) h.reached;
+    }
+
+-- hints that propagate, and a last one that is then false
+pub follows : (clauses : List (List Lit)) (front : List ℕ) (last : ℕ) (before truths : List Lit) (c : List Lit) → Propagates clauses front before truths → slice_get clauses last ≡ Some c → IsFalse truths c → Follows clauses before (front ++ last ∷ [])
+follows clauses [] last before truths c p at f = (c, at, subst (λ (x : List Lit). IsFalse x c) p f)
+follows clauses (h ∷ []) last before truths c p at f = (p.0, p.1, p.2, p.3, follows clauses [] last (p.2 ∷ before) truths c p.4 at f)
+follows clauses (h ∷ i ∷ front) last before truths c p at f = (p.0, p.1, p.2, p.3, follows clauses (i ∷ front) last (p.2 ∷ before) truths c p.4 at f)
+
+pub learned : {clauses : List (List Lit)} {entries : List Entry} {marked resolved : List Bool} {at : ℕ} {clause : List Lit} {hints : List ℕ} → IsAnalyzed clauses entries marked resolved at clause → IsPartial clauses entries marked resolved clause (length entries) hints → Follows clauses (map opposite clause) (hints ++ at ∷ [])
+learned {clauses = clauses} {at = at} {clause = clause} {hints = hints} a h =
+    follows clauses hints at (map opposite clause) h.truths a.conflict h.units a.at_conflict
+    (λ m c. let b = a.all_marked m c in h.reached.complete b.0 (opposite m) b.2 b.3 (inr b.1))
+
+pub partial_next : {clauses : List (List Lit)} {entries : List Entry} {marked resolved : List Bool} {at : ℕ} {clause : List Lit} {i : ℕ} {hints : List ℕ} → IsAnalyzed clauses entries marked resolved at clause → slice_get resolved i ≡ Some true → IsPartial clauses entries marked resolved clause i hints → (reason : ℕ) (e : Entry) → slice_get entries i ≡ Some e → e.reason ≡ Some reason → IsPartial clauses entries marked resolved clause (i + 1) (hints ++ reason ∷ [])
+partial_next {entries = entries} {i = i} a was h reason e at has = partial_push a was h reason e.lit (at ∙ ap (λ (r : Option ℕ). let x : Entry = record { lit = e.lit; reason = r } in Some x) has)
+
+pub no_decision : {clauses : List (List Lit)} {entries : List Entry} {marked resolved : List Bool} {at : ℕ} {clause : List Lit} → IsAnalyzed clauses entries marked resolved at clause → (i : ℕ) → slice_get resolved i ≡ Some true → (e : Entry) → slice_get entries i ≡ Some e → e.reason ≡ None → ⊥
+no_decision {entries = entries} a i was e at none =
+    let r = a.closed i was in
+    let same : Some r.reason ≡ e.reason = ap (λ (x : Entry). x.reason) (same_Some _ _ (sym r.entry ∙ at)) in
+    cc

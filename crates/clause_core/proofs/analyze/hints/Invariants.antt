@@ -1,0 +1,8 @@
+use Rattle.std.proofs.Common.{List, Bool}
+use Rattle.formula.specs.declared.atom.Lit.{Lit}
+use Rattle.clause_core.specs.Analysis.{IsAnalyzed}
+use Rattle.clause_core.proofs.Rup.{IsPartial}
+use Rattle.clause_core.proofs.analyze.hints.Given as goal
+
+abbrev pub invariant-loop-i : goal.invariant-loop-i
+invariant-loop-i l = (clauses : List (List Lit)) (marked : List Bool) (clause : List Lit) → IsAnalyzed clauses l.entries marked l.resolved l.conflict clause → IsPartial clauses l.entries marked l.resolved clause l.i l.hints.items

@@ -1,0 +1,70 @@
+-- What conflict analysis marks.
+use Rattle.std.specs.Prelude.{◌≡◌, ◌≢◌, ℕ, ◌<◌, Bool, true, false, List, length, Some, slice_get}
+use Rattle.std.specs.List.{Contains}
+use Rattle.formula.specs.declared.atom.Lit.{Lit}
+use Rattle.formula.specs.Reading.{opposite}
+use Rattle.clause_core.specs.declared.trail.Entry.{Entry}
+use Rattle.clause_core.specs.Standing.{Stands, Before, IsApart}
+
+-- the literal stands before the place, and is marked
+abbrev pub IsMarked : List Entry → List Bool → ℕ → Lit → Type 0
+IsMarked entries marked n l = (p : ℕ) × (p < n) × Stands entries p l × (slice_get marked p ≡ Some true)
+
+-- each resolved literal is forced by marked ones before it
+pub record IsResolved (clauses : List (List Lit)) (entries : List Entry) (marked : List Bool) (i : ℕ) : Type 0 where
+  pub lit : Lit
+  pub reason : ℕ
+  pub clause : List Lit
+  pub entry : slice_get entries i ≡ Some (record { lit = lit; reason = Some reason })
+  pub at_reason : slice_get clauses reason ≡ Some clause
+  pub within : Contains clause lit
+  pub others : (m : Lit) → Contains clause m → m ≢ lit → IsMarked entries marked i (opposite m)
+  pub itself : slice_get marked i ≡ Some true
+
+abbrev pub IsClosed : List (List Lit) → List Entry → List Bool → List Bool → Type 0
+IsClosed clauses entries marked resolved = (i : ℕ) → slice_get resolved i ≡ Some true → IsResolved clauses entries marked i
+
+-- each literal of the clause is false by a marked one
+abbrev pub IsAllMarked : List Entry → List Bool → List Lit → Type 0
+IsAllMarked entries marked clause = (m : Lit) → Contains clause m → IsMarked entries marked (length entries) (opposite m)
+
+-- the literals that are marked and not resolved, turned
+pub record IsKept (entries : List Entry) (marked resolved : List Bool) (clause : List Lit) : Type 0 where
+  pub sound : (l : Lit) → Contains clause l → (p : ℕ) × Stands entries p (opposite l) × (slice_get marked p ≡ Some true) × (slice_get resolved p ≡ Some false)
+  pub complete : (p : ℕ) (l : Lit) → Stands entries p l → slice_get marked p ≡ Some true → slice_get resolved p ≡ Some false → Contains clause (opposite l)
+
+pub record IsAnalyzed (clauses : List (List Lit)) (entries : List Entry) (marked resolved : List Bool) (at : ℕ) (clause : List Lit) : Type 0 where
+  pub conflict : List Lit
+  pub at_conflict : slice_get clauses at ≡ Some conflict
+  pub all_marked : IsAllMarked entries marked conflict
+  pub closed : IsClosed clauses entries marked resolved
+  pub apart : IsApart entries
+  pub kept : IsKept entries marked resolved clause
+  pub lengths : length resolved ≡ length entries
+
+-- a literal that is false by a marked one that isn't resolved
+pub record IsKeptAt (entries : List Entry) (marks resolves : List Bool) (b : ℕ) (l : Lit) : Type 0 where
+  pub boolean : l.boolean ≡ b
+  pub place : ℕ
+  pub stands : Stands entries place (opposite l)
+  pub marked : slice_get marks place ≡ Some true
+  pub resolved : slice_get resolves place ≡ Some false
+
+-- all literals of the clause are false
+abbrev pub IsFalseAmong : List Entry → List Lit → Type 0
+IsFalseAmong entries clause = (m : Lit) → Contains clause m → Before entries (length entries) (opposite m)
+
+-- the clause of this number is false
+abbrev pub IsConflict : List (List Lit) → List Entry → ℕ → Type 0
+IsConflict clauses entries k = (c : List Lit) × (slice_get clauses k ≡ Some c) × IsFalseAmong entries c
+
+-- marks are never taken back
+abbrev pub Grows : List Bool → List Bool → Type 0
+Grows old new = (p : ℕ) → slice_get old p ≡ Some true → slice_get new p ≡ Some true
+
+-- what going back over the trail leaves
+pub record IsMarkedUp (clauses : List (List Lit)) (entries : List Entry) (conflict : ℕ) (marked resolved : List Bool) : Type 0 where
+  pub closed : IsClosed clauses entries marked resolved
+  pub all_marked : (c : List Lit) → slice_get clauses conflict ≡ Some c → IsAllMarked entries marked c
+  pub marks : length marked ≡ length entries
+  pub resolves : length resolved ≡ length entries
