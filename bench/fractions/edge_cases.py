@@ -1,5 +1,6 @@
 #!/usr/bin/env python3
-"""Prints the rows of crates/frac128/src/edge_rows.rt: cases at the edges of 128 bits.
+"""Prints the rows of crates/case_rows/data/fractions.rows, cases at the edges of 128 bits; with the word `answers` it prints
+what the program is to answer, which stands in crates/case_rows/stdout.
 
 Everything is computed with unlimited integers, from the definitions in words: the numbers that an operation names, and
 the shape of each text. No row comes from the program under test.
@@ -7,6 +8,7 @@ the shape of each text. No row comes from the program under test.
 from fractions import Fraction
 from math import floor, gcd
 import re
+import sys
 
 MOST = 2**127 - 1
 
@@ -107,18 +109,29 @@ def operation_rows():
     rows.append(("add", Fraction(1, MOST - 1), Fraction(1, MOST - 1)))
     rows.append(("add", Fraction(1, 6), Fraction(1, 10)))
     rows.append(("mul", Fraction(2, 3), Fraction(9, 4)))
-    lines = []
     for op, x, y in rows:
         answer = operation(op, x, y)
-        lines.append(f"{op} {show(x)} {show(y)} {'wide' if answer is None else show(answer)}")
-    return lines
+        wide = f"wide: {op} {show(x)} {show(y)}"
+        yield (op, show(x), show(y)), wide if answer is None else show(answer)
 
 
 def order_rows():
     values = sorted(set(edge_fractions()))
-    lines = [f"less {show(x)} {show(y)}" for x, y in zip(values[::3], values[1::3])]
-    lines += [f"floor {show(x)} {floor(x)}" for x in values[::6] + [-x for x in values[3::6]]]
-    return lines
+    for x, y in zip(values[::3], values[1::3]):
+        yield ("cmp", show(x), show(y)), "Less Greater"
+        yield ("cmp", show(x), show(x)), "Equal Equal"
+
+
+def floor_rows():
+    values = sorted(set(edge_fractions()))
+    for x in [Fraction(-1, 2)] + values[::6] + [-x for x in values[3::6]]:
+        yield ("floor", show(x)), str(floor(x))
+
+
+def whole_rows():
+    for n in (0, -7, MOST, -MOST):
+        yield ("whole", str(n)), f"{n} true"
+    yield ("whole", str(-MOST - 1)), "none"
 
 
 def text_rows():
@@ -126,11 +139,12 @@ def text_rows():
     texts += ["1/-2", "+1", " 1", "1 ", "1/2/3", "--1", "1.5", "a", "4/2", "12345/2"]
     texts += [str(MOST), str(-MOST), str(MOST + 1), str(-MOST - 1), f"1/{MOST}", f"1/{MOST + 1}", f"{MOST + 1}/{MOST}"]
     texts += [f"{MOST}/{MOST - 1}", f"{MOST + 1}/1", f"{MOST + 1}/0", f"{MOST + 1}/02", "9" * 60, "1/" + "9" * 60]
-    return [f"text {t} {read_text(t)}" for t in texts if t and " " not in t]
+    for text in texts:
+        yield ("text", text), read_text(text)
 
 
 def decimal_rows():
-    texts = ["007", "-0.50", "1.", ".5", "-", "-0", "0.0", "1.5", "1.50", "-1.25", "1.2.3", "1,5", "1e5", "00.10", "+1"]
+    texts = ["", "007", "-0.50", "1.", ".5", "-", "-0", "0.0", "1.5", "1.50", "-1.25", "1.2.3", "1,5", "1e5", "00.10", "+1"]
     for places in (37, 38, 39):
         for zeros in (0, 1, 5):
             texts.append("0." + "0" * (places - 1) + "1" + "0" * zeros)
@@ -139,16 +153,36 @@ def decimal_rows():
     most = str(MOST)
     texts += [most, "-" + most, str(MOST + 1), "0" * 50 + most, most + ".0", most + "." + "0" * 50, most + ".1"]
     texts += [most[:-1] + "." + most[-1], most[:1] + "." + most[1:], "0." + most, str(MOST + 1)[:1] + "." + str(MOST + 1)[1:]]
-    return [f"decimal {t} {read_decimal(t)}" for t in texts]
+    for text in texts:
+        yield ("decimal", text), read_decimal(text)
 
 
-def table(name, lines):
-    print(f'\npub(super) const {name}: &str = "\\')
-    print("\\n\\\n".join(lines) + '";')
+TABLES = [
+    ("Operations on two fractions.", "operation", "$1 | $2 | $3", operation_rows),
+    ("How two fractions compare, each way.", "order", "$1 | $2 | $3", order_rows),
+    ("The greatest whole number that isn't above a fraction.", "floor", "$1 | $2", floor_rows),
+    ("Whole numbers as fractions, and whether each is whole.", "whole", "$1 | $2", whole_rows),
+    ("Texts of fractions.", "fraction", "$1 | $2", text_rows),
+    ("Texts of decimals.", "decimal", "$1 | $2", decimal_rows),
+]
 
 
-print("//! Rows computed by `bench/fractions/edge_cases.py` with unlimited integers. Write none by hand.")
-table("OPERATIONS", operation_rows())
-table("ORDER", order_rows())
-table("TEXTS", text_rows())
-table("DECIMALS", decimal_rows())
+def part(text):
+    """A part of a row; white space around it would be trimmed."""
+    return text.replace(" ", "\\s")
+
+
+def main(answers):
+    if not answers:
+        print("# Fractions at the edges of 128 bits. bench/fractions/edge_cases.py prints these rows, and their answers, which it computes")
+        print("# with unlimited integers. Write none by hand.")
+    for doc, name, frame, rows in TABLES:
+        if not answers:
+            print(f"\n# {doc}\nframe fraction | {frame}")
+        for number, (parts, answer) in enumerate(rows(), 1):
+            row = " | ".join([f"{name}-{number}"] + [part(text) for text in parts]).rstrip()
+            print(f"{name}-{number} | {answer}" if answers else row)
+
+
+if __name__ == "__main__":
+    main(sys.argv[1:] == ["answers"])
