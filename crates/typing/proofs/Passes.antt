@@ -1,7 +1,7 @@
 -- What the passes answer one by one, and what linking answers by them.
 use Rattle.std.proofs.Common.{◌≡◌, List, [], ◌∷◌, Option, Some, None, Result, Ok, Err, refl, sym, ◌∙◌, ap, subst}
 use Rattle.std.proofs.lemmas.List.{append-nil, length-map}
-use Rattle.std.specs.Prelude.{ℕ, true, ◌++◌, length, IfErr, IfOk, IfSome}
+use Rattle.std.specs.Prelude.{ℕ, true, ◌++◌, length, IfErr, IfOk, IfSome, OnOk}
 use Rattle.std.specs.Option.{option_map}
 use Rattle.sexpr.specs.declared.fault.Source.{Source}
 use Rattle.sexpr.specs.declared.fault.Source.TheVariants as source
@@ -26,7 +26,7 @@ use Rattle.typing_names.specs.declared.domain.DomainNames.{DomainNames}
 use Rattle.typing_names.specs.declared.problem.ProblemNames.{ProblemNames}
 use Rattle.typing_uses.specs.Scope.{Scope}
 use Rattle.typing_names.specs.Tables.{scope_in, parts_of, problem_parts_of}
-use Rattle.typing.specs.Resolved.{IsResolved, AreResolved, AreFaultless, declared_in}
+use Rattle.typing.specs.Resolved.{IsResolved, AreResolved, AreLinear, LinearityRefuses, AreFaultless, declared_in}
 use Rattle.typing_names.specs.Faults.{tested}
 use Rattle.pddl_task.specs.declared.action.Action.{Action}
 use Rattle.typing_types.specs.Known.{AreTyped, have_types, domain_type_faults}
@@ -125,9 +125,6 @@ problem_type_faults_are d p n m known objects items is said same counted =
     ap (λ (k : Declared). problem_faults k p (items_of items)) (same ∙ ap (declared_in n) said ∙ problem_known d p n m is)
     ∙ ap (λ (l : List Counted). problem_faults (problem_declared d (parts_of n) p (problem_parts_of m)) p (items_of l)) counted ∙ sym (problem_types-is d (parts_of n) p (problem_parts_of m))
 
-pub still_typed : (d : DomainAst) (x y : DomainParts) → x ≡ y → tested (domain_types d y) ≡ good tt → tested (domain_types d x) ≡ good tt
-still_typed d x y same typed = ap (λ (z : DomainParts). tested (domain_types d z)) same ∙ typed
-
 -- ---- the task's parts
 pub task_names : (d : DomainAst) (p : ProblemAst) (n : DomainNames) (m : ProblemNames) (parts : TaskParts) (names : List (List ℕ)) → AreResolved d p n m → parts ≡ task_of (parts_of n) (problem_parts_of m) → names ≡ n.tables.types → names ≡ names_of parts.types
 task_names d p n m parts names is same said =
@@ -161,6 +158,10 @@ test_answers file (f ∷ more) (Some g) r is same =
 pub test_passes : (file : Source) (fs : List Fault) (old first : Option Fault) (r : Result (Unit {0}) TextRefusal) → old ≡ None → first ≡ least old fs → Concludes file (Some tt) first r → Answers file (tested fs) r
 test_passes file fs old first r none is same = test_answers file fs first r (is ∙ ap (λ (o : Option Fault). least o fs) none) same
 
+-- at faults that are the same
+pub answered_at : {fs gs : List Fault} (file : Source) (r : Result (Unit {0}) TextRefusal) → fs ≡ gs → Answers file (tested fs) r → Answers file (tested gs) r
+answered_at file r same h = subst (λ (l : List Fault). Answers file (tested l) r) same h
+
 pub least_at : {fs gs : List Fault} (old : Option Fault) → fs ≡ gs → least old fs ≡ least old gs
 least_at old same = ap (least old) same
 
@@ -181,6 +182,25 @@ refused file j next refusal.Memory h = tt
 pub domain_names_refused : (d : DomainAst) (p : ProblemAst) (e : TextRefusal) → RefusesBy source.Domain (domain_names d) e → Links d p (Err e)
 unfolding link_of
 domain_names_refused d p e h = refused source.Domain (domain_names d) (λ parts. passed source.Domain (tested (domain_types d parts)) (λ _. problem_link d parts p)) e h
+
+-- linearity, whatever the names came to
+linear_first : (d : DomainAst) (p : ProblemAst) (parts : DomainParts) (more : ProblemParts) → tested (domain_nonlinearities d.actions) ≡ good tt
+    → linear_task d parts p more ≡ passed source.Problem (tested (goal_nonlinearities d.actions p.goal)) (λ _. Ok (task_of parts more))
+linear_first d p parts more linear = ap (λ (j : Judged (Unit {0})). passed source.Domain j (λ _. passed source.Problem (tested (goal_nonlinearities d.actions p.goal)) (λ _. Ok (task_of parts more)))) linear
+
+pub domain_linearity_refused : (d : DomainAst) (p : ProblemAst) (e : TextRefusal) → RefusesBy source.Domain (tested (domain_nonlinearities d.actions)) e → LinearityRefuses d p e
+domain_linearity_refused d p e h parts more =
+    refused source.Domain (tested (domain_nonlinearities d.actions)) (λ _. passed source.Problem (tested (goal_nonlinearities d.actions p.goal)) (λ _. Ok (task_of parts more))) e h
+
+pub goal_linearity_refused : (d : DomainAst) (p : ProblemAst) → tested (domain_nonlinearities d.actions) ≡ good tt → (r : Result (Unit {0}) TextRefusal) → Answers source.Problem (tested (goal_nonlinearities d.actions p.goal)) r → IfErr r (LinearityRefuses d p)
+goal_linearity_refused d p linear (Ok u) h = tt
+goal_linearity_refused d p linear (Err e) h = λ parts more.
+    subst (λ (r : Result TaskParts TextFault). LinkRefuses r e) (sym (linear_first d p parts more linear))
+    (refused source.Problem (tested (goal_nonlinearities d.actions p.goal)) (λ _. Ok (task_of parts more)) e h)
+
+pub linear_found : (d : DomainAst) (p : ProblemAst) → tested (domain_nonlinearities d.actions) ≡ good tt → (r : Result (Unit {0}) TextRefusal) → Answers source.Problem (tested (goal_nonlinearities d.actions p.goal)) r → OnOk r (AreLinear d p)
+linear_found d p linear (Ok u) h = record { domain = linear; goal = h }
+linear_found d p linear (Err e) h = tt
 
 module _ (d : DomainAst) (p : ProblemAst) (parts : DomainParts) (has : domain_names d ≡ good parts) where
   linked_names : link_of d p ≡ passed source.Domain (tested (domain_types d parts)) (λ _. problem_link d parts p)
@@ -212,25 +232,24 @@ module _ (d : DomainAst) (p : ProblemAst) (parts : DomainParts) (has : domain_na
         linked_linear : link_of d p ≡ linear_task d parts p more
         linked_linear = linked_problem ∙ ap (λ (j : Judged (Unit {0})). passed source.Problem j (λ _. linear_task d parts p more)) fits
 
-        pub domain_linearity_refused : (e : TextRefusal) → RefusesBy source.Domain (tested (domain_nonlinearities d.actions)) e → Links d p (Err e)
-        domain_linearity_refused e h =
-            subst (λ (r : Result TaskParts TextFault). LinkRefuses r e) (sym linked_linear)
-            (refused source.Domain (tested (domain_nonlinearities d.actions)) (λ _. passed source.Problem (tested (goal_nonlinearities d.actions p.goal)) (λ _. Ok (task_of parts more))) e h)
+        pub linearity_refused : (r : Result (Unit {0}) TextRefusal) → IfErr r (LinearityRefuses d p) → IfErr r (λ e. Links d p (Err e))
+        linearity_refused (Ok u) h = tt
+        linearity_refused (Err e) h = subst (λ (r : Result TaskParts TextFault). LinkRefuses r e) (sym linked_linear) (h parts more)
 
-        module _ (linear : tested (domain_nonlinearities d.actions) ≡ good tt) where
-          linked_goal : link_of d p ≡ passed source.Problem (tested (goal_nonlinearities d.actions p.goal)) (λ _. Ok (task_of parts more))
-          linked_goal = linked_linear ∙ ap (λ (j : Judged (Unit {0})). passed source.Domain j (λ _. passed source.Problem (tested (goal_nonlinearities d.actions p.goal)) (λ _. Ok (task_of parts more)))) linear
+        linked : tested (domain_nonlinearities d.actions) ≡ good tt → tested (goal_nonlinearities d.actions p.goal) ≡ good tt → link_of d p ≡ Ok (task_of parts more)
+        linked linear last = linked_linear ∙ linear_first d p parts more linear ∙ ap (λ (j : Judged (Unit {0})). passed source.Problem j (λ _. Ok (task_of parts more))) last
 
-          pub goal_linearity_refused : (e : TextRefusal) → RefusesBy source.Problem (tested (goal_nonlinearities d.actions p.goal)) e → Links d p (Err e)
-          goal_linearity_refused e h =
-              subst (λ (r : Result TaskParts TextFault). LinkRefuses r e) (sym linked_goal)
-              (refused source.Problem (tested (goal_nonlinearities d.actions p.goal)) (λ _. Ok (task_of parts more)) e h)
+pub faultless_found : (d : DomainAst) (p : ProblemAst) (n : DomainNames) (m : ProblemNames) → tested (domain_types d (parts_of n)) ≡ good tt → tested (problem_types d (parts_of n) p (problem_parts_of m)) ≡ good tt
+    → (r : Result (Unit {0}) TextRefusal) → OnOk r (AreLinear d p) → OnOk r (AreFaultless d p n m)
+faultless_found d p n m typed fits (Ok u) linear = record { domain_types = typed; problem_types = fits; domain_linear = linear.domain; goal_linear = linear.goal }
+faultless_found d p n m typed fits (Err e) linear = tt
 
-          pub linked : tested (goal_nonlinearities d.actions p.goal) ≡ good tt → link_of d p ≡ Ok (task_of parts more)
-          linked last = linked_goal ∙ ap (λ (j : Judged (Unit {0})). passed source.Problem j (λ _. Ok (task_of parts more))) last
-
-pub task_linked : (d : DomainAst) (p : ProblemAst) (n : DomainNames) (m : ProblemNames) → AreResolved d p n m → tested (domain_types d (parts_of n)) ≡ good tt → tested (problem_types d (parts_of n) p (problem_parts_of m)) ≡ good tt
-    → tested (domain_nonlinearities d.actions) ≡ good tt → tested (goal_nonlinearities d.actions p.goal) ≡ good tt → (r : Result TaskParts TextRefusal)
+pub task_linked : (d : DomainAst) (p : ProblemAst) (n : DomainNames) (m : ProblemNames) → AreResolved d p n m → AreFaultless d p n m → (r : Result TaskParts TextRefusal)
     → IfOk r (λ t. t ≡ task_of (parts_of n) (problem_parts_of m)) → IfErr r (λ e. e ≡ refusal.Memory) → Links d p r
-task_linked d p n m is typed fits linear last (Ok t) made refused = linked d p (parts_of n) is.domain typed (problem_parts_of m) is.problem fits linear last ∙ ap Ok (sym made)
-task_linked d p n m is typed fits linear last (Err e) made refused = subst (λ (x : TextRefusal). LinkRefuses (link_of d p) x) (sym refused) tt
+task_linked d p n m is free (Ok t) made refused = linked d p (parts_of n) is.domain free.domain_types (problem_parts_of m) is.problem free.problem_types free.domain_linear free.goal_linear ∙ ap Ok (sym made)
+task_linked d p n m is free (Err e) made refused = subst (λ (x : TextRefusal). LinkRefuses (link_of d p) x) (sym refused) tt
+
+-- what is so, whatever is answered
+pub whatever : {A E : Type 0} {P : Type 0} (r : Result A E) → P → OnOk r P
+whatever (Ok a) h = h
+whatever (Err e) h = tt

@@ -3,18 +3,20 @@
 use Rattle.std.specs.Prelude.{◌≡◌, List, [], ◌++◌, IsTrue}
 use Rattle.pddl_domain.specs.declared.domain.DomainAst.{DomainAst}
 use Rattle.pddl_problem.specs.declared.ast.ProblemAst.{ProblemAst}
+use Rattle.sexpr.specs.declared.fault.TextRefusal.{TextRefusal}
 use Rattle.pddl_problem.specs.Grammar.{is_problem}
 use Rattle.pddl_form.specs.Judged.{good}
 use Rattle.pddl_task.specs.declared.declared.Object.{Object}
 use Rattle.pddl_task.specs.Task.{parents}
 use Rattle.typing_names.specs.declared.domain.DomainNames.{DomainNames}
 use Rattle.typing_names.specs.declared.problem.ProblemNames.{ProblemNames}
-use Rattle.typing_names.specs.Domain.{domain_names, domain_scope}
-use Rattle.typing_names.specs.Problem.{problem_names, problem_scope}
+use Rattle.typing_names.specs.Domain.{DomainParts, domain_names, domain_scope}
+use Rattle.typing_names.specs.Problem.{ProblemParts, problem_names, problem_scope}
 use Rattle.typing_names.specs.Faults.{tested}
 use Rattle.typing_linear.specs.Linear.{domain_nonlinearities, goal_nonlinearities}
 use Rattle.typing_types.specs.Types.{Declared, domain_types, problem_types}
 use Rattle.typing_names.specs.Tables.{scope_in, parts_of, problem_parts_of}
+use Rattle.typing.specs.Link.{linear_task, LinkRefuses}
 
 -- the names of a domain
 pub record IsResolved (d : DomainAst) (made : DomainNames) : Type 0 where
@@ -29,6 +31,15 @@ pub record AreResolved (d : DomainAst) (p : ProblemAst) (made : DomainNames) (mo
   pub problem : problem_names d p ≡ good (problem_parts_of more)
   pub tables : scope_in made.tables ≡ problem_scope d p
   pub hierarchy : made.hierarchy ≡ parents made.types
+
+-- the passes over linearity have found no fault
+pub record AreLinear (d : DomainAst) (p : ProblemAst) : Type 0 where
+  pub domain : tested (domain_nonlinearities d.actions) ≡ good tt
+  pub goal : tested (goal_nonlinearities d.actions p.goal) ≡ good tt
+
+-- what they refuse, whatever the names came to
+abbrev pub LinearityRefuses : DomainAst → ProblemAst → TextRefusal → Type 0
+LinearityRefuses d p e = (parts : DomainParts) (more : ProblemParts) → LinkRefuses (linear_task d parts p more) e
 
 -- and the passes over types and over linearity have found no fault
 pub record AreFaultless (d : DomainAst) (p : ProblemAst) (made : DomainNames) (more : ProblemNames) : Type 0 where

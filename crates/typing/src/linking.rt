@@ -1,31 +1,32 @@
 //! The task that a written domain and problem come to. Begin with `link`: one pass after another, the first that finds a
 //! fault gives the answer.
-ghost use Rattle.std.specs.Prelude.{◌≡◌, [], IfErr, IfOk, IsTrue};
+ghost use Rattle.std.specs.Prelude.{◌≡◌, true, [], length, Err, IfErr, IfOk, IsTrue, OnOk};
 ghost use Rattle.sexpr.specs.declared.fault.Source.TheVariants as source;
 ghost use Rattle.pddl_form.specs.Concluded.{Answers, RefusesBy};
 ghost use Rattle.pddl_form.specs.Judged.{good};
 ghost use Rattle.pddl_domain.specs.Grammar.{is_domain};
 ghost use Rattle.pddl_problem.specs.Grammar.{is_problem};
-ghost use Rattle.typing_names.specs.Domain.{domain_names};
-ghost use Rattle.typing_names.specs.Problem.{problem_names};
-ghost use Rattle.typing_types.specs.Types.{domain_types, problem_types};
+ghost use Rattle.typing_names.specs.Domain.{domain_names, domain_scope};
+ghost use Rattle.typing_names.specs.Problem.{problem_names, problem_scope};
+ghost use Rattle.typing_types.specs.Types.{domain_types, problem_types, problem_faults};
 ghost use Rattle.typing_linear.specs.Linear.{domain_nonlinearities, goal_nonlinearities};
 ghost use Rattle.typing_names.specs.Faults.{tested};
 ghost use Rattle.typing.specs.Link.{Links};
-ghost use Rattle.typing_names.specs.Tables.{parts_of, problem_parts_of};
-ghost use Rattle.typing_types.specs.Known.{declared_of};
-ghost use Rattle.typing.specs.Resolved.{IsResolved, AreResolved, declared_in};
+ghost use Rattle.typing_names.specs.Tables.{scope_in, parts_of, problem_parts_of};
+ghost use Rattle.typing_names.specs.Items.{items_of, are_counted};
+ghost use Rattle.typing_types.specs.Known.{declared_of, AreTyped, have_types, domain_type_faults};
+ghost use Rattle.typing.specs.Resolved.{IsResolved, AreResolved, AreLinear, LinearityRefuses, AreFaultless, declared_in};
 
 use crate::making::make_task;
 use name_table::NameTable;
 use pddl_domain::DomainAst;
 use pddl_form::{FirstFault, conclude};
 use pddl_problem::ProblemAst;
-use pddl_task::{Object, Task};
+use pddl_task::{Action, Object, Task};
 use sexpr::{Source, TextRefusal};
 use std::alloc::Global;
 use typing_linear::{Changing, judge_domain_linearity, judge_goal_linearity};
-use typing_names::{DomainNames, ProblemNames, resolve_domain, resolve_problem};
+use typing_names::{DomainNames, Item, ProblemNames, Tables, resolve_domain, resolve_problem};
 use typing_types::{Known, judge_domain_types, judge_problem_types};
 use typing_uses::Names;
 
@@ -62,6 +63,22 @@ fn known_by<'a>(made: &'a DomainNames, objects: &'a [Object], params: &'a NameTa
     }
 }
 
+/// Judges the domain's types by what is known.
+fn judge_domain<'a>(
+    alloc: Global,
+    known: &Known<'a>,
+    domain: &DomainAst,
+    actions: &'a [Action],
+) -> Result<(), TextRefusal>
+    requires typed { AreTyped (declared_of known.now) }
+    requires actions { have_types (length known.now.hierarchy.now) actions.now ≡ true }
+    ensures { Answers source.Domain (tested (domain_type_faults (declared_of known.now) domain.now actions.now)) result }
+{
+    let mut faults = FirstFault::new();
+    judge_domain_types(alloc, known, domain, actions, &mut faults)?;
+    conclude(Source::Domain, Some(()), faults)
+}
+
 /// The pass over the domain's types.
 fn pass_domain_types(
     alloc: Global,
@@ -73,49 +90,57 @@ fn pass_domain_types(
 {
     let params = NameTable::new(alloc);
     let known = known_by(made, &[], &params);
-    let mut faults = FirstFault::new();
-    judge_domain_types(alloc, &known, domain, made.actions.as_slice(), &mut faults)?;
-    conclude(Source::Domain, Some(()), faults)
+    judge_domain(alloc, &known, domain, made.actions.as_slice())
 }
 
-/// The pass over the problem's names, whose objects are added to the domain's.
+/// The pass over the problem's names, whose objects are added to the domain's in the tables.
 fn pass_problem_names(
     alloc: Global,
+    tables: &mut Tables,
     domain: &DomainAst,
     problem: &ProblemAst,
-    made: DomainNames,
-) -> Result<(DomainNames, ProblemNames), TextRefusal>
-    requires resolved { IsResolved domain.now made }
+) -> Result<ProblemNames, TextRefusal>
+    requires tables { scope_in tables.old ≡ domain_scope domain.now }
     requires grammar { IsTrue (is_problem problem.now) }
-    ensures made { IfOk result (λ n. AreResolved domain.now problem.now n.0 n.1) }
-    ensures parts { IfOk result (λ n. parts_of n.0 ≡ parts_of made) }
+    ensures made { IfOk result (λ more. problem_names domain.now problem.now ≡ good (problem_parts_of more)) }
+    ensures tables { OnOk result (scope_in tables.new ≡ problem_scope domain.now problem.now) }
     ensures refused { IfErr result (RefusesBy source.Problem (problem_names domain.now problem.now)) }
 {
     let mut faults = FirstFault::new();
-    let mut made = made;
-    let more = resolve_problem(alloc, &mut made.tables, domain, problem, &mut faults)?;
-    match conclude(Source::Problem, more, faults) {
-        Ok(more) => Ok((made, more)),
-        Err(refusal) => Err(refusal),
-    }
+    let more = resolve_problem(alloc, tables, domain, problem, &mut faults)?;
+    conclude(Source::Problem, more, faults)
+}
+
+/// Judges the problem's types by what is known.
+fn judge_problem(
+    alloc: Global,
+    known: &Known<'_>,
+    problem: &ProblemAst,
+    items: &[Item],
+) -> Result<(), TextRefusal>
+    requires typed { AreTyped (declared_of known.now) }
+    requires counted { are_counted (length known.now.preds.now) (length known.now.funcs.now) items.now ≡ true }
+    ensures { Answers source.Problem (tested (problem_faults (declared_of known.now) problem.now (items_of items.now))) result }
+{
+    let mut faults = FirstFault::new();
+    judge_problem_types(alloc, known, problem, items, &mut faults)?;
+    conclude(Source::Problem, Some(()), faults)
 }
 
 /// The pass over the problem's types.
-fn pass_problem_types<'a>(
+fn pass_problem_types(
     alloc: Global,
     domain: &DomainAst,
     problem: &ProblemAst,
-    made: &'a DomainNames,
-    more: &'a ProblemNames,
+    made: &DomainNames,
+    more: &ProblemNames,
 ) -> Result<(), TextRefusal>
     requires { AreResolved domain.now problem.now made.now more.now }
     ensures { Answers source.Problem (tested (problem_types domain.now (parts_of made.now) problem.now (problem_parts_of more.now))) result }
 {
     let params = NameTable::new(alloc);
     let known = known_by(made, more.objects.as_slice(), &params);
-    let mut faults = FirstFault::new();
-    judge_problem_types(alloc, &known, problem, more.items.as_slice(), &mut faults)?;
-    conclude(Source::Problem, Some(()), faults)
+    judge_problem(alloc, &known, problem, more.items.as_slice())
 }
 
 fn pass_domain_linearity(
@@ -145,52 +170,45 @@ fn pass_goal_linearity(
     conclude(Source::Problem, Some(()), faults)
 }
 
-/// The pass over the goal's linearity, and the task.
-fn link_goal(
+/// The passes over linearity, the domain first.
+fn pass_linearity(
     alloc: Global,
     domain: &DomainAst,
     problem: &ProblemAst,
-    changing: &Changing,
-    made: DomainNames,
-    more: ProblemNames,
-) -> Result<Task, TextRefusal>
-    requires resolved { AreResolved domain.now problem.now made more }
-    requires typed { tested (domain_types domain.now (parts_of made)) ≡ good tt }
-    requires fits { tested (problem_types domain.now (parts_of made) problem.now (problem_parts_of more)) ≡ good tt }
-    requires linear { tested (domain_nonlinearities domain.now.actions) ≡ good tt }
-    requires changing { changing.now ≡ domain.now.actions }
-    ensures { Links domain.now problem.now result }
-{
-    match pass_goal_linearity(alloc, domain, problem, changing) {
-        Ok(()) => make_task(alloc, domain, problem, made, more),
-        Err(refusal) => Err(refusal),
-    }
-}
-
-/// The pass over the domain's linearity, and what follows.
-fn link_linear(
-    alloc: Global,
-    domain: &DomainAst,
-    problem: &ProblemAst,
-    made: DomainNames,
-    more: ProblemNames,
-) -> Result<Task, TextRefusal>
-    requires resolved { AreResolved domain.now problem.now made more }
-    requires typed { tested (domain_types domain.now (parts_of made)) ≡ good tt }
-    requires fits { tested (problem_types domain.now (parts_of made) problem.now (problem_parts_of more)) ≡ good tt }
-    ensures { Links domain.now problem.now result }
+) -> Result<(), TextRefusal>
+    ensures linear { OnOk result (AreLinear domain.now problem.now) }
+    ensures refused { IfErr result (LinearityRefuses domain.now problem.now) }
 {
     let changing = match Changing::new(alloc, domain.actions.as_slice()) {
         Ok(changing) => changing,
         Err(_) => return Err(TextRefusal::Memory),
     };
     match pass_domain_linearity(alloc, domain, &changing) {
-        Ok(()) => link_goal(alloc, domain, problem, &changing, made, more),
+        Ok(()) => pass_goal_linearity(alloc, domain, problem, &changing),
         Err(refusal) => Err(refusal),
     }
 }
 
-/// The pass over the problem's types, and what follows.
+/// The passes behind those over names and over the domain's types. They only read what the names came to.
+fn pass_problem(
+    alloc: Global,
+    domain: &DomainAst,
+    problem: &ProblemAst,
+    made: &DomainNames,
+    more: &ProblemNames,
+) -> Result<(), TextRefusal>
+    requires resolved { AreResolved domain.now problem.now made.now more.now }
+    requires typed { tested (domain_types domain.now (parts_of made.now)) ≡ good tt }
+    ensures faultless { OnOk result (AreFaultless domain.now problem.now made.now more.now) }
+    ensures refused { IfErr result (λ e. Links domain.now problem.now (Err e)) }
+{
+    match pass_problem_types(alloc, domain, problem, made, more) {
+        Ok(()) => pass_linearity(alloc, domain, problem),
+        Err(refusal) => Err(refusal),
+    }
+}
+
+/// The last passes, and the task.
 fn link_problem(
     alloc: Global,
     domain: &DomainAst,
@@ -202,8 +220,8 @@ fn link_problem(
     requires typed { tested (domain_types domain.now (parts_of made)) ≡ good tt }
     ensures { Links domain.now problem.now result }
 {
-    match pass_problem_types(alloc, domain, problem, &made, &more) {
-        Ok(()) => link_linear(alloc, domain, problem, made, more),
+    match pass_problem(alloc, domain, problem, &made, &more) {
+        Ok(()) => make_task(alloc, domain, problem, made, more),
         Err(refusal) => Err(refusal),
     }
 }
@@ -220,8 +238,9 @@ fn link_types(
     requires typed { tested (domain_types domain.now (parts_of made)) ≡ good tt }
     ensures { Links domain.now problem.now result }
 {
-    match pass_problem_names(alloc, domain, problem, made) {
-        Ok((made, more)) => link_problem(alloc, domain, problem, made, more),
+    let mut made = made;
+    match pass_problem_names(alloc, &mut made.tables, domain, problem) {
+        Ok(more) => link_problem(alloc, domain, problem, made, more),
         Err(refusal) => Err(refusal),
     }
 }
@@ -243,6 +262,18 @@ fn link_names(
     }
 }
 
+/// The passes one after another, and the task.
+fn link_texts(alloc: Global, domain: &DomainAst, problem: &ProblemAst) -> Result<Task, TextRefusal>
+    requires domain { IsTrue (is_domain domain.now) }
+    requires problem { IsTrue (is_problem problem.now) }
+    ensures { Links domain.now problem.now result }
+{
+    match pass_domain_names(alloc, domain) {
+        Ok(made) => link_names(alloc, domain, problem, made),
+        Err(refusal) => Err(refusal),
+    }
+}
+
 /// Links a domain and a problem to their task, or answers the first fault. They are of the grammar, as all are that
 /// `read_domain` and `read_problem` make.
 ///
@@ -252,8 +283,5 @@ pub fn link(alloc: Global, domain: DomainAst, problem: ProblemAst) -> Result<Tas
     requires problem { IsTrue (is_problem problem) }
     ensures { Links domain problem result }
 {
-    match pass_domain_names(alloc, &domain) {
-        Ok(made) => link_names(alloc, &domain, &problem, made),
-        Err(refusal) => Err(refusal),
-    }
+    link_texts(alloc, &domain, &problem)
 }
