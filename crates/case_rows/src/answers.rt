@@ -2,21 +2,8 @@
 use crate::faults::show_refusal;
 use crate::{domains, forms, fractions, plans, problems, steps, task_parts, tasks};
 use pddl_task::Task;
+use row_files::{text, word};
 use std::alloc::{AllocError, Global};
-use std::str;
-
-/// A text by its number; an empty one where there are fewer.
-fn text(texts: &[Vec<u8>], at: usize) -> &[u8] {
-    match texts.get(at) {
-        Some(text) => text.as_slice(),
-        None => &[],
-    }
-}
-
-/// A text that is a word; an empty one where it isn't.
-fn word(texts: &[Vec<u8>], at: usize) -> &str {
-    str::from_utf8(text(texts, at)).unwrap_or("")
-}
 
 /// What a call answers on these texts.
 pub fn answer(alloc: Global, call: &str, texts: &[Vec<u8>]) -> Result<String, AllocError> {

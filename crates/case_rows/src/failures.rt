@@ -1,7 +1,7 @@
 //! Failures of steps, and operations that pass 128 bits.
-use crate::escapes::add_shown;
 use frac128::{Frac, Op, Wide};
 use plan_step::StepFail;
+use row_files::add_shown;
 use std::alloc::{AllocError, Global};
 
 fn word_of(op: Op) -> &'static str {

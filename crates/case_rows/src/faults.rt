@@ -1,5 +1,5 @@
 //! Faults of texts: the file, the kind, the place with the text from there on, and the word where one is named.
-use crate::escapes::add_shown;
+use row_files::add_shown;
 use sexpr::{Source, TextRefusal};
 use std::alloc::{AllocError, Global};
 

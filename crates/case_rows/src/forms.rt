@@ -1,12 +1,10 @@
 //! The forms that domains and problems are made of, each as a text by itself.
 use crate::faults::show;
+use patty_io::LIMIT;
 use pddl_condition::{read_condition, read_expression};
 use pddl_form::{FirstFault, Sort, Typed, read_section_words, read_typed_list};
 use sexpr::{Source, TextRefusal, Tree, read};
 use std::alloc::{AllocError, Global};
-
-/// The most bytes that the readers take.
-pub const LIMIT: usize = 67_108_864;
 
 /// The tree of a text. One that is longer than the readers take counts as want of memory.
 pub fn tree_of(alloc: Global, file: Source, text: &[u8]) -> Result<Tree, TextRefusal> {

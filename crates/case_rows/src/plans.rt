@@ -2,14 +2,14 @@
 ghost use Rattle.std.specs.Prelude.{IfOk};
 ghost use Rattle.plan_text.specs.Printed.{IsPlanOf};
 
-use crate::escapes::add_shown;
 use crate::failures::{show_fail, show_wide};
 use crate::faults::show;
-use crate::forms::LIMIT;
+use patty_io::LIMIT;
 use pddl_task::Task;
 use plan_judge::{Outcome, PartFail, judge_plan};
 use plan_step::{RepeatFail, StepFail};
 use plan_text::{Part, Plan, PlanRefusal, flat_len, read_plan, write_part, write_plan};
+use row_files::add_shown;
 use std::alloc::{AllocError, Global};
 
 /// The plan of a text. One that is longer than the readers take counts as want of memory.

@@ -1,6 +1,6 @@
 //! Pairs of texts: their first faults, and how much the tasks of those without one have.
 use crate::faults::show_refusal;
-use crate::forms::LIMIT;
+use patty_io::LIMIT;
 use patty_run::{Stop, read_task};
 use pddl_task::Task;
 use sexpr::TextRefusal;
