@@ -1,5 +1,5 @@
 -- What a search stops at, from the theory's answer.
-use Rattle.std.proofs.Common.{◌≡◌, ◌<◌, ℕ, Bool, true, List, length, Option, Some, subst, sym, ap, ◌∙◌}
+use Rattle.std.proofs.Common.{◌≡◌, ◌<◌, ℕ, Bool, true, List, length, Option, Some, subst, sym, ap, ◌∙◌, arith}
 use Rattle.std.specs.List.{Contains, slice_get}
 use Rattle.rational.specs.Fraction.{Fraction}
 use Rattle.formula.specs.declared.atom.Lit.{Lit}
@@ -7,7 +7,8 @@ use Rattle.formula.specs.declared.atom.Atom.{Atom}
 use Rattle.formula.specs.declared.point.Point.{Point}
 use Rattle.formula.specs.Contents.{Contents}
 use Rattle.theory_law.specs.declared.verdict.Verdict.TheVariants.{Fits, Cut}
-use Rattle.theory_law.specs.Readings.{AreWhole, MeetsRows, MeetsWhole}
+use Rattle.formula.specs.Meets.{AreWhole, Meets, IsSolution}
+use Rattle.theory_law.specs.Readings.{IsExact}
 use Rattle.theory_law.specs.Verdicts.{IsCutAt}
 use Rattle.theory_law.specs.Licence.{IsDue}
 use Rattle.clause_core.specs.declared.search.Event.TheVariants.{Cut as CutEvent, Full}
@@ -31,8 +32,21 @@ event_full Shown cuts a b full point cut ef et quiet all is ans =
     (at.0, at.1, (done a b at.0 ef et quiet all at.2.0, subst (λ (x : Contents). AreWhole x.counts at.0) (sym ef) at.2.1))
 
 -- a point with the theory's values is due for the split, or meets the formula
-pub due : (f : Contents) (var : ℕ) (k : Fraction) (values : List Fraction) (p : Point) → MeetsRows f p → p.values ≡ values → IsCutAt f.counts values var k → IsDue f var k p
-due f var k values p meets is cut = record { meets = meets; value = cut.value; at = ap (λ (x : List Fraction). slice_get x var) is ∙ cut.at; between = cut.between }
+pub due : (f : Contents) (var : ℕ) (k : Fraction) (values : List Fraction) (p : Point) → IsExact f p → Meets f p → p.values ≡ values → IsCutAt f.counts values var k → IsDue f var k p
+due f var k values p exact meets is cut = record {
+  exact = exact;
+  meets = meets;
+  value = cut.value;
+  at = ap (λ (x : List Fraction). slice_get x var) is ∙ cut.at;
+  between = cut.between;
+}
 
-pub meets_all : (f : Contents) (values : List Fraction) (p : Point) → MeetsRows f p → p.values ≡ values → AreWhole f.counts values → MeetsWhole f p
-meets_all f values p meets is whole = record { rows = meets; whole_counts = subst (λ (x : List Fraction). AreWhole f.counts x) (sym is) whole }
+pub solution : (f : Contents) (values : List Fraction) (p : Point) → IsExact f p → Meets f p → p.values ≡ values → AreWhole f.counts values → IsSolution f p × IsExact f p
+solution f values p exact meets is whole = (
+  record {
+    point = record { values = omega (arith, exact.values); truth = omega (arith, exact.truths) };
+    integral = subst (λ (x : List Fraction). AreWhole f.counts x) (sym is) whole;
+    meets = meets;
+  },
+  exact,
+)

@@ -4,7 +4,7 @@ use Rattle.rational.specs.Fraction.{Fraction}
 use Rattle.formula.specs.declared.atom.Lit.{Lit}
 use Rattle.formula.specs.declared.atom.Atom.{Atom}
 use Rattle.formula.specs.Contents.{is_clause}
-use Rattle.theory_law.specs.Readings.{AreWhole}
+use Rattle.formula.specs.Meets.{AreWhole}
 use Rattle.theory_law.specs.Verdicts.{IsCutAt}
 use Rattle.theory_law.specs.Licence.{IsNew}
 use Rattle.clause_core.specs.declared.search.Event.{Event}

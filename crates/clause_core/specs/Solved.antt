@@ -10,7 +10,8 @@ use Rattle.theory_law.specs.declared.verdict.TheoryFail.TheVariants as theory
 use Rattle.theory_law.specs.declared.trace.Trace.{Trace}
 use Rattle.theory_law.specs.declared.trace.Site.TheVariants.{Pivots as PivotsSite}
 use Rattle.theory_law.specs.declared.log.LogStep.{LogStep}
-use Rattle.theory_law.specs.Readings.{MeetsWhole}
+use Rattle.formula.specs.Meets.{IsSolution}
+use Rattle.theory_law.specs.Readings.{IsExact}
 use Rattle.theory_law.specs.Log.{IsSoundLog, HasEmpty, after_log}
 use Rattle.theory_law.specs.Licence.{IsLicensedLog}
 use Rattle.theory_law.specs.Sinks.{Rose}
@@ -25,7 +26,7 @@ use Rattle.clause_core.specs.Stepping.{StepHolds, IsOfCut, IsStuck, SplitsOnlyIf
 -- what comes next
 abbrev pub NextHolds : {W : Type 0} → (List Bool → List (Option Atom) → List Lit → W → Type 0) → Bool → Contents → Option (ℕ × Fraction) → Next W → Type 0
 NextHolds Shown cuts f cut (Step s) = StepHolds Shown cuts f s × IsOfCut cut s
-NextHolds Shown cuts f cut (Point p) = MeetsWhole f p
+NextHolds Shown cuts f cut (Point p) = IsSolution f p × IsExact f p
 
 -- a log over the formula: each step is sound and licensed against what stands before it, and there are splits only where the
 -- theory cuts
@@ -36,7 +37,7 @@ pub record IsLog {W : Type 0} (Shown : List Bool → List (Option Atom) → List
 
 -- what an answer says of the formula with the log, after so many steps of those that are allowed
 abbrev pub ResultHolds : (List Bool → List (Option Atom) → ℕ → Trace → Type 0) → ℕ → Contents → ℕ → ℕ → Result Outcome CoreFail → Type 0
-ResultHolds Stuck pivots f count steps (Ok (Found p)) = MeetsWhole f p
+ResultHolds Stuck pivots f count steps (Ok (Found p)) = IsSolution f p × IsExact f p
 ResultHolds Stuck pivots f count steps (Ok Empty) = HasEmpty f
 ResultHolds Stuck pivots f count steps (Err Steps) = (count ≡ steps) × (HasEmpty f → ⊥)
 ResultHolds Stuck pivots f count steps (Err (Wide t)) = IsStuck Stuck f pivots t × (t.site ≡ PivotsSite → ⊥)

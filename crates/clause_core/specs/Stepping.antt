@@ -11,7 +11,7 @@ use Rattle.theory_law.specs.declared.verdict.Verdict.TheVariants.{Fits, Clash, C
 use Rattle.theory_law.specs.declared.log.LogStep.{LogStep}
 use Rattle.theory_law.specs.declared.log.LogStep.TheVariants.{Lemma, Learn, Split}
 use Rattle.formula.specs.Reading.{opposite}
-use Rattle.theory_law.specs.Readings.{AreWhole}
+use Rattle.formula.specs.Meets.{AreWhole}
 use Rattle.theory_law.specs.Verdicts.{IsTraceOf, IsCutAt}
 use Rattle.theory_law.specs.Log.{IsSound}
 use Rattle.theory_law.specs.Licence.{IsLicensed}

@@ -5,7 +5,8 @@ ghost use Rattle.std.specs.List.{All, Contains};
 ghost use Rattle.rational.specs.Fraction.{Fraction};
 ghost use Rattle.formula.specs.declared.atom.Lit.{Lit};
 ghost use Rattle.theory_law.specs.Log.{HasEmpty};
-ghost use Rattle.theory_law.specs.Readings.{MeetsRows};
+ghost use Rattle.formula.specs.Meets.{Meets};
+ghost use Rattle.theory_law.specs.Readings.{IsExact};
 ghost use Rattle.theory_law.specs.Verdicts.{FailHolds};
 ghost use Rattle.clause_core.specs.Standing.{Stands, IsFree};
 ghost use Rattle.clause_core.specs.Cored.{IsComplete, IsFalseAt, IsFull, IsPoint};
@@ -181,7 +182,8 @@ fn values<T: Theory>(alloc: Global, theory: &T, vars: u64) -> Result<Vec<Frac>, 
 pub(crate) fn point_of<T: Theory>(core: &Core<T>) -> Result<Point, AllocError>
     requires fixed { IsSome (T.fixed core.now.theory) }
     requires done { (p : List Fraction) → T.fixed core.now.theory ≡ Some p → IsDone core.now p }
-    ensures meets { IfOk result (MeetsRows core.now.formula) }
+    ensures exact { IfOk result (IsExact core.now.formula) }
+    ensures meets { IfOk result (Meets core.now.formula) }
     ensures values { IfOk result (λ point. (p : List Fraction) → T.fixed core.now.theory ≡ Some p → point.values ≡ p) }
 {
     Ok(Point {

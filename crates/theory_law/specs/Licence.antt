@@ -5,7 +5,8 @@ use Rattle.rational.specs.Fraction.{Fraction}
 use Rattle.formula.specs.declared.atom.Lit.{Lit}
 use Rattle.formula.specs.declared.point.Point.{Point}
 use Rattle.formula.specs.Contents.{Contents}
-use Rattle.theory_law.specs.Readings.{MeetsRows}
+use Rattle.formula.specs.Meets.{Meets}
+use Rattle.theory_law.specs.Readings.{IsExact}
 use Rattle.theory_law.specs.declared.log.LogStep.{LogStep}
 use Rattle.theory_law.specs.declared.log.LogStep.TheVariants.{Lemma, Learn, Split}
 use Rattle.theory_law.specs.Verdicts.{IsBetween}
@@ -21,7 +22,8 @@ IsNew clauses c = (d : List Lit) → Contains clauses d → IsPart d c → ⊥
 
 -- the point meets all clauses and readings so far, and there the count lies strictly between k and k + 1
 pub record IsDue (f : Contents) (var : ℕ) (k : Fraction) (p : Point) : Type 0 where
-  pub meets : MeetsRows f p
+  pub exact : IsExact f p
+  pub meets : Meets f p
   pub value : Fraction
   pub at : slice_get p.values var ≡ Some value
   pub between : IsBetween k value

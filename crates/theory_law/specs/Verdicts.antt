@@ -9,7 +9,8 @@ use Rattle.formula.specs.declared.atom.Lit.{Lit}
 use Rattle.formula.specs.declared.atom.Atom.{Atom}
 use Rattle.theory_law.specs.Splits.{CanSplit}
 use Rattle.formula.specs.Reading.{opposite}
-use Rattle.theory_law.specs.Readings.{Reads, AreWhole}
+use Rattle.formula.specs.Meets.{AreWhole}
+use Rattle.theory_law.specs.Readings.{Reads}
 use Rattle.formula.specs.Contents.{is_clause}
 use Rattle.theory_law.specs.declared.verdict.Verdict.{Verdict}
 use Rattle.theory_law.specs.declared.verdict.Verdict.TheVariants.{Fits, Clash, Cut}

@@ -4,7 +4,8 @@ ghost use Rattle.std.specs.declared.option.Option.{Option};
 ghost use Rattle.std.specs.List.{Any};
 ghost use Rattle.rational.specs.Fraction.{Fraction};
 ghost use Rattle.formula.specs.declared.atom.Atom.{Atom};
-ghost use Rattle.theory_law.specs.Readings.{Reads, AreWhole};
+ghost use Rattle.formula.specs.Meets.{AreWhole};
+ghost use Rattle.theory_law.specs.Readings.{Reads};
 
 use crate::theory::Theory;
 use formula::Clause;

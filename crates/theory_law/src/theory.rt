@@ -8,7 +8,8 @@ ghost use Rattle.rational.specs.Fraction.{Fraction};
 ghost use Rattle.formula.specs.declared.atom.Lit.{Lit};
 ghost use Rattle.formula.specs.declared.atom.Atom.{Atom};
 ghost use Rattle.theory_law.specs.Splits.{at_most};
-ghost use Rattle.theory_law.specs.Readings.{Reads, AreWhole};
+ghost use Rattle.formula.specs.Meets.{AreWhole};
+ghost use Rattle.theory_law.specs.Readings.{Reads};
 
 use crate::verdict::{StartFail, TheoryFail, Verdict};
 use formula::{Formula, Lit};

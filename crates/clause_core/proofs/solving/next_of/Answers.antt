@@ -1,6 +1,6 @@
 use Rattle.std.proofs.Common.{length, ap, ◌∙◌}
 use Rattle.clause_core.specs.Cored.{Cored}
-use Rattle.clause_core.proofs.Events.{due}
+use Rattle.clause_core.proofs.Events.{due, solution}
 use Rattle.clause_core.proofs.solving.next_of.Goals as goal
 
 pub returns-in-Clash : goal.returns-in-Clash
@@ -16,8 +16,14 @@ returns-in_ok-point_of-in-Cut g c =
     let next = c.booleans.ensures ∙ ap (λ (x : Cored g.row.T.Denot). length x.formula.atoms) c.core.view_is in (
       record {
         sound = (next, at.2.1.splits);
-        licensed = due c.args.core.now.formula c.in-Cut.var c.in-Cut.k at.0 c.in_ok-point_of-in-Cut.field-0 is.meets (is.values at.0 at.1) at.2.1;
+        licensed = due c.args.core.now.formula c.in-Cut.var c.in-Cut.k at.0 c.in_ok-point_of-in-Cut.field-0 is.exact is.meets (is.values at.0 at.1) at.2.1;
         splits = e.0;
       },
       e.1,
     )
+
+pub returns-in_ok-point_of-in-Full : goal.returns-in_ok-point_of-in-Full
+returns-in_ok-point_of-in-Full g c =
+    let e = rw c.in-Full.is at c.requires.event in
+    let is = c.in_ok-point_of-in-Full.ensures in
+    solution c.args.core.now.formula e.0 c.in_ok-point_of-in-Full.field-0 is.exact is.meets (is.values e.0 e.1) e.2.1
