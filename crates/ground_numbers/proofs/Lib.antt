@@ -1,0 +1,2 @@
+pub mod FirstSight
+pub mod Keys

@@ -1,0 +1,2 @@
+-- How ground things are compared and hashed.
+pub mod Same
