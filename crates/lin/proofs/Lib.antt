@@ -5,6 +5,7 @@ pub mod SharedOps
 pub mod MergeSteps
 pub mod SumAnswers
 pub mod Multiples
+pub mod Quotients
 pub mod Substituting
 pub mod Evaluating
 pub mod ValueLaws

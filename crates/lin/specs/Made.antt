@@ -6,7 +6,7 @@ use Rattle.rational.specs.Fraction.{Fraction, ◌+ℚ◌, ◌*ℚ◌}
 use Rattle.rational.specs.Linear.{Terms}
 use Rattle.frac128.specs.declared.operations.Wide.{Wide}
 use Rattle.lin.specs.Linear.{Linear, fixed, add, scale}
-use Rattle.lin.specs.Operations.{adding, multiplying}
+use Rattle.lin.specs.Operations.{adding, multiplying, dividing}
 
 -- the terms of variable n
 abbrev pub terms_of : ℕ → Terms → Terms
@@ -22,6 +22,10 @@ add_ops l m = shared_ops l.terms m.terms ++ adding l.constant m.constant ∷ []
 -- the factor stands first
 abbrev pub scale_ops : Fraction → Linear → List Wide
 scale_ops c l = map (λ t. multiplying c t.1) l.terms ++ multiplying c l.constant ∷ []
+
+-- the divisor stands second
+abbrev pub div_ops : Fraction → Linear → List Wide
+div_ops c l = map (λ t. dividing t.1 c) l.terms ++ dividing l.constant c ∷ []
 
 -- for each term the multiple of its variable's replacement, and then its sum with what is so far
 abbrev pub subst_ops_from : (ℕ → Linear) → Linear → Terms → List Wide

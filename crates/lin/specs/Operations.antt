@@ -4,17 +4,20 @@ use Rattle.std.specs.Prelude.{◌≡◌, List, ◌∷◌, ◌++◌, Result, Ok, 
 use Rattle.std.specs.List.{AllByRecursion}
 use Rattle.rational.specs.Fraction.{Fraction}
 use Rattle.frac128.specs.Operations.{Fits, Passes}
-use Rattle.frac128.specs.declared.operations.Op.TheVariants.{Add, Mul}
+use Rattle.frac128.specs.declared.operations.Op.TheVariants.{Add, Mul, Div}
 use Rattle.frac128.specs.declared.operations.Wide.{Wide}
 use Rattle.lin.specs.declared.failure.LinFail.{LinFail}
 use Rattle.lin.specs.declared.failure.LinFail.TheVariants as fail
 
--- the operations x + y and x * y
+-- the operations x + y, x * y and x / y
 abbrev pub adding : Fraction → Fraction → Wide
 adding x y = record { op = Add; x = x; y = y }
 
 abbrev pub multiplying : Fraction → Fraction → Wide
 multiplying x y = record { op = Mul; x = x; y = y }
+
+abbrev pub dividing : Fraction → Fraction → Wide
+dividing x y = record { op = Div; x = x; y = y }
 
 -- no operation passes
 abbrev pub AllFit : List Wide → Type 0
