@@ -1,0 +1,15 @@
+pub mod Tests
+pub mod Groundable
+pub mod FoldLaws
+pub mod PartLaws
+pub mod LeafLaws
+pub mod ListLaws
+pub mod EffectLaws
+pub mod StepLaws
+pub mod FitsLaws
+pub mod ShapeLaws
+pub mod LinearLaws
+pub mod GoalLaws
+pub mod RollLaws
+pub mod TaskLaws
+pub mod WorkLaws
