@@ -7,3 +7,5 @@ pub mod Truths
 pub mod FarkasSteps
 pub mod FarkasAnswers
 pub mod Refuting
+pub mod Keys
+pub mod Indexing

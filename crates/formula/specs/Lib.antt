@@ -1,5 +1,6 @@
 pub mod Atoms
 pub mod Contents
+pub mod Equal
 pub mod Reading
 pub mod Meets
 pub mod Farkas

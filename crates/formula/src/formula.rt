@@ -1,13 +1,18 @@
 //! A formula: numeric variables, some of them counts, Booleans, some of them atoms, and clauses. Begin with `Formula`.
-ghost use Rattle.std.specs.Prelude.{◌≡◌, ◌<◌, ◌+◌, [], ◌∷◌, ◌++◌, length, slice_get, Some, None, true, IfOk, OnOk, OnErr};
+ghost use Rattle.std.specs.Prelude.{◌≡◌, ◌<◌, ◌+◌, [], ◌∷◌, ◌++◌, length, slice_get, Some, None, true, unwrap_or, IsSome, IfOk, OnOk, OnErr};
+ghost use Rattle.std.specs.HashMap.{spare, Updates};
 ghost use Rattle.std.specs.Option.{option_copied};
 ghost use Rattle.formula.specs.Atoms.{IsAtom};
 ghost use Rattle.formula.specs.Contents.{IsFormula, is_clause, with_variable, with_boolean, with_clause};
+ghost use Rattle.formula.specs.Equal.{boolean_of, with_atom};
+ghost use Rattle.formula.specs.inside.Keys.{key_of, same_key};
 
 use crate::atom::Atom;
 use crate::clause::Clause;
+use crate::key::key_of;
 use sqlite_items::Items;
 use std::alloc::{AllocError, Global};
+use std::collections::HashMap;
 use std::marker::Model;
 
 /// Numeric variables, Booleans and clauses, each numbered from 0 in the order in which they were added.
@@ -16,12 +21,15 @@ pub struct Formula {
     counts: Items<bool>,
     atoms: Items<Option<Atom>>,
     clauses: Items<Clause>,
+    // The first Boolean of each atom, by its key.
+    index: HashMap<Vec<u128>, u64>,
     alloc: Global,
 }
 
 impl Model for Formula {
     ghost use Rattle.formula.specs.Atoms.{IsAtom};
     ghost use Rattle.formula.specs.Contents.{Contents, contents_code, IsFormula};
+    ghost use Rattle.formula.specs.inside.Keys.{IsIndex};
 
     ghost Value = { Contents };
 
@@ -29,7 +37,7 @@ impl Model for Formula {
 
     ghost view = { λ f. record { counts = f.counts; atoms = f.atoms; clauses = f.clauses } };
 
-    ghost invariant = { λ f. IsFormula (record { counts = f.counts; atoms = f.atoms; clauses = f.clauses }) };
+    ghost invariant = { λ f. IsFormula (record { counts = f.counts; atoms = f.atoms; clauses = f.clauses }) × IsIndex f.index f.atoms };
 }
 
 impl Formula {
@@ -41,6 +49,7 @@ impl Formula {
             counts: Items::new(alloc),
             atoms: Items::new(alloc),
             clauses: Items::new(alloc),
+            index: HashMap::new(alloc),
             alloc,
         }
     }
@@ -115,6 +124,20 @@ impl Formula {
         self.clauses.push(c)
     }
 
+    /// The first Boolean of an equal atom, or else one more Boolean of this atom.
+    pub fn add_atom(&mut self, a: Atom) -> Result<u64, AllocError>
+        requires { IsAtom self.old.counts a }
+        ensures number { IfOk result (λ b. b ≡ unwrap_or (boolean_of a self.old.atoms) (length self.old.atoms)) }
+        ensures added { OnOk result (self.new ≡ with_atom a self.old) }
+        ensures same { OnErr result (self.new ≡ self.old) }
+    {
+        let key = key_of(self.alloc, &a)?;
+        match self.index.get(&key).copied() {
+            Some(number) => Ok(number),
+            None => self.push_first(key, a),
+        }
+    }
+
     /// One more Boolean, of this atom, and its number.
     pub(crate) fn push_atom(&mut self, a: Atom) -> Result<u64, AllocError>
         requires { IsAtom self.old.counts a }
@@ -122,8 +145,39 @@ impl Formula {
         ensures added { OnOk result (self.new ≡ with_boolean (Some a) self.old) }
         ensures same { OnErr result (self.new ≡ self.old) }
     {
+        let key = key_of(self.alloc, &a)?;
+        match self.index.get(&key).copied() {
+            Some(_) => self.push_again(a),
+            None => self.push_first(key, a),
+        }
+    }
+
+    // One more Boolean of an atom that has one.
+    fn push_again(&mut self, a: Atom) -> Result<u64, AllocError>
+        requires atom { IsAtom self.old.counts a }
+        requires known { IsSome (boolean_of a self.old.atoms) }
+        ensures number { IfOk result (λ b. b ≡ length self.old.atoms) }
+        ensures added { OnOk result (self.new ≡ with_boolean (Some a) self.old) }
+        ensures same { OnErr result (self.new ≡ self.old) }
+    {
         let number = self.booleans();
         self.atoms.push(Some(a))?;
+        Ok(number)
+    }
+
+    // The first Boolean of an atom, whose key is given.
+    fn push_first(&mut self, key: Vec<u128>, a: Atom) -> Result<u64, AllocError>
+        requires key { key.items ≡ key_of a }
+        requires atom { IsAtom self.old.counts a }
+        requires first { boolean_of a self.old.atoms ≡ None }
+        ensures number { IfOk result (λ b. b ≡ length self.old.atoms) }
+        ensures added { OnOk result (self.new ≡ with_boolean (Some a) self.old) }
+        ensures same { OnErr result (self.new ≡ self.old) }
+    {
+        let number = self.booleans();
+        self.index.reserve(1)?;
+        self.atoms.push(Some(a))?;
+        put(&mut self.index, key, number);
         Ok(number)
     }
 
@@ -142,5 +196,15 @@ impl Formula {
 
     pub(crate) fn alloc(&self) -> Global {
         self.alloc
+    }
+}
+
+// Puts a number at a key, for which there is room.
+fn put(index: &mut HashMap<Vec<u128>, u64>, key: Vec<u128>, number: u64)
+    requires { 0 < spare index.old }
+    ensures { Updates same_key index.old index.new key (Some number) }
+{
+    if index.insert(key, number).is_err() {
+        unreachable!();
     }
 }

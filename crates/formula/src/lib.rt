@@ -6,6 +6,7 @@ mod atom;
 mod clause;
 mod farkas;
 mod formula;
+mod key;
 pub mod laws;
 mod meeting;
 mod point;

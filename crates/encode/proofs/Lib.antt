@@ -1,0 +1,17 @@
+pub mod RowLaws
+pub mod TruthRows
+pub mod SetRows
+pub mod ComparisonRows
+pub mod Counts
+pub mod Occurrence
+pub mod Words
+pub mod Quotients
+pub mod PlainLaws
+pub mod TableLaws
+pub mod ClauseLaws
+pub mod Making
+pub mod Below
+pub mod Readings
+pub mod FormulaLaws
+pub mod Spelling
+pub mod MainLaws

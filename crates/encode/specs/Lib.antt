@@ -1,0 +1,6 @@
+pub mod Rows
+pub mod Operations
+pub mod Symbolic
+pub mod Numbering
+pub mod Encoding
+pub mod Laws
