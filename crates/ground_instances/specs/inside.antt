@@ -1,0 +1,3 @@
+-- How the argument lists are searched for: by their first arguments.
+pub mod Open
+pub mod Search
