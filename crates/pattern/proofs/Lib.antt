@@ -3,3 +3,9 @@ pub mod Sorting
 pub mod Order
 pub mod InPattern
 pub mod Words
+pub mod Comparing
+pub mod Turns
+pub mod Copies
+pub mod Growing
+pub mod Testing
+pub mod AtLast
