@@ -1,6 +1,6 @@
 #!/usr/bin/env python3
-"""Prints the rows of crates/case_rows/data/fractions.rows, cases at the edges of 128 bits; with the word `answers` it prints
-what the program is to answer, which stands in crates/case_rows/stdout.
+"""Prints the rows of crates/fraction_rows/data/fractions.rows, cases at the edges of 128 bits; with the word `answers` it prints
+what the program is to answer, which stands in crates/fraction_rows/stdout.
 
 Everything is computed with unlimited integers, from the definitions in words: the numbers that an operation names, and
 the shape of each text. No row comes from the program under test.

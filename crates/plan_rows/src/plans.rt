@@ -2,14 +2,13 @@
 ghost use Rattle.std.specs.Prelude.{IfOk};
 ghost use Rattle.plan_text.specs.Printed.{IsPlanOf};
 
-use crate::failures::{show_fail, show_wide};
-use crate::faults::show;
+use crate::failures::show_fail;
 use patty_io::LIMIT;
 use pddl_task::Task;
 use plan_judge::{Outcome, PartFail, judge_plan};
 use plan_step::{RepeatFail, StepFail};
 use plan_text::{Part, Plan, PlanRefusal, flat_len, read_plan, write_part, write_plan};
-use row_files::add_shown;
+use row_files::{add_shown, show_fault, show_wide};
 use std::alloc::{AllocError, Global};
 
 /// The plan of a text. One that is longer than the readers take counts as want of memory.
@@ -24,7 +23,7 @@ fn plan_of(alloc: Global, task: &Task, text: &[u8]) -> Result<Plan, PlanRefusal>
 
 fn show_refusal(alloc: Global, refusal: &PlanRefusal, text: &[u8]) -> Result<String, AllocError> {
     match refusal {
-        PlanRefusal::Fault { kind, place } => show(alloc, "plan", *kind, *place, "", text),
+        PlanRefusal::Fault { kind, place } => show_fault(alloc, "plan", *kind, *place, "", text),
         PlanRefusal::Memory => Err(AllocError),
     }
 }

@@ -1,10 +1,10 @@
 //! Faults of texts: the file, the kind, the place with the text from there on, and the word where one is named.
-use row_files::add_shown;
+use crate::escapes::add_shown;
 use sexpr::{Source, TextRefusal};
 use std::alloc::{AllocError, Global};
 
 /// A fault of a text with this name.
-pub fn show(
+pub fn show_fault(
     alloc: Global,
     of: &str,
     kind: u8,
@@ -37,7 +37,7 @@ pub fn show_refusal(
     };
     let word = fault.word.as_str();
     match fault.file {
-        Source::Domain => show(alloc, "domain", fault.kind, fault.place, word, domain),
-        Source::Problem => show(alloc, "problem", fault.kind, fault.place, word, problem),
+        Source::Domain => show_fault(alloc, "domain", fault.kind, fault.place, word, domain),
+        Source::Problem => show_fault(alloc, "problem", fault.kind, fault.place, word, problem),
     }
 }

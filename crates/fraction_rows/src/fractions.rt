@@ -1,6 +1,6 @@
 //! Fractions: the operations, the order, and their texts.
-use crate::failures::{show_fraction, show_wide};
 use frac128::{Frac, NumFault, Wide};
+use row_files::{show_fraction, show_wide};
 use std::alloc::{AllocError, Global};
 use std::str;
 

@@ -1,8 +1,8 @@
 //! The forms that domains and problems are made of, each as a text by itself.
-use crate::faults::show;
 use patty_io::LIMIT;
 use pddl_condition::{read_condition, read_expression};
 use pddl_form::{FirstFault, Sort, Typed, read_section_words, read_typed_list};
+use row_files::show_fault;
 use sexpr::{Source, TextRefusal, Tree, read};
 use std::alloc::{AllocError, Global};
 
@@ -76,7 +76,7 @@ fn outcome(
     match faults.into_first() {
         None if fine => String::from_str(alloc, "fine"),
         Some(fault) if !fine => {
-            show(
+            show_fault(
                 alloc,
                 "form",
                 fault.kind,

@@ -1,7 +1,6 @@
-//! Failures of steps, and operations that pass 128 bits.
+//! Fractions, and operations that pass 128 bits.
+use crate::escapes::add_shown;
 use frac128::{Frac, Op, Wide};
-use plan_step::StepFail;
-use row_files::add_shown;
 use std::alloc::{AllocError, Global};
 
 fn word_of(op: Op) -> &'static str {
@@ -28,13 +27,4 @@ pub fn show_wide(alloc: Global, wide: &Wide) -> Result<String, AllocError> {
     let x = show_fraction(alloc, &wide.x)?;
     let y = show_fraction(alloc, &wide.y)?;
     format!(in alloc; "{op} {x} {y}")
-}
-
-/// What a failure says, and of an operation past 128 bits its operands too. Want of memory ends the program.
-pub fn show_fail(alloc: Global, fail: &StepFail) -> Result<String, AllocError> {
-    match fail {
-        StepFail::Memory => Err(AllocError),
-        StepFail::Wide(wide) => show_wide(alloc, wide),
-        other => format!(in alloc; "{other}"),
-    }
 }

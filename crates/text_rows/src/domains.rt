@@ -1,7 +1,7 @@
 //! Texts of domains: their first faults, and the syntax of those without one.
-use crate::faults::show_refusal;
 use crate::forms::{add_typed, tree_of};
 use pddl_domain::{ActionAst, DomainAst, Head, read_domain};
+use row_files::show_refusal;
 use sexpr::{Source, TextRefusal};
 use std::alloc::{AllocError, Global};
 

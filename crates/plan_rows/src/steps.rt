@@ -1,8 +1,9 @@
 //! Steps, repetitions and instances. The tasks of these rows have an action without parameters as their first, the functions
 //! `x` and `y`, and the predicate `p`.
-use crate::failures::{show_fail, show_fraction};
+use crate::failures::show_fail;
 use pddl_task::{Instance, Task};
 use plan_step::{RepeatFail, State, StepFail, repeat, step};
+use row_files::show_fraction;
 use sqlite_items::Items;
 use std::alloc::{AllocError, Global};
 

@@ -1,8 +1,8 @@
 //! Texts of problems: their first faults, and the syntax of those without one.
-use crate::faults::show_refusal;
 use crate::forms::{add_typed, tree_of};
 use pddl_form::Spot;
 use pddl_problem::{InitAst, ProblemAst, read_problem};
+use row_files::show_refusal;
 use sexpr::{Source, TextRefusal};
 use std::alloc::{AllocError, Global};
 
