@@ -1,5 +1,7 @@
 -- A whole domain from its parts.
 use Rattle.std.proofs.Common.{◌≡◌, ℕ, List, [], ◌∷◌, ◌++◌, map, Option, Some, None, refl, sym, ◌∙◌, ap, subst}
+use Rattle.std.specs.Prelude.{IfSome}
+use Rattle.std.specs.Option.{option_map}
 use Rattle.pddl_form.specs.declared.fault.Fault.{Fault}
 use Rattle.pddl_form.specs.declared.spot.Spot.{Spot}
 use Rattle.pddl_form.specs.declared.typed.Typed.{Typed}
@@ -20,6 +22,9 @@ use Rattle.typing_uses.specs.Scope.{Scope, texts, sighted, distinct, declared_ag
 use Rattle.typing_names.specs.Faults.{beside, tested}
 use Rattle.pddl_form.specs.Sections.{second}
 use Rattle.typing_names.specs.Domain.{names_of, heads_of, type_names, types_in, objects_named, signatures_named, actions_named, DomainParts, parts_with, domain_scope, domain_again, parts_named, domain_names}
+use Rattle.typing_names.specs.declared.domain.Tables.{Tables}
+use Rattle.typing_names.specs.declared.domain.DomainNames.{DomainNames}
+use Rattle.typing_names.specs.Tables.{scope_in}
 use Rattle.typing_names.proofs.Declaring.{read_tests, read_beside}
 use Rattle.typing_uses.proofs.ExpressionLaws.{of_pair, of_pairs, both_pair, both_pairs}
 use Rattle.typing_names.proofs.DomainLaws.{apply-mapped}
@@ -49,26 +54,35 @@ signatures_tested d preds old mid new x y z same h k is =
     read_tests (declared_again [] (heads_of d.preds)) (declared_again [] (heads_of d.funcs) ++ declared_again [] (map (λ a. a.name) d.actions)) old mid new x y z
     (subst (λ (hs : List Head). IsRead (tested (declared_again [] (heads_of hs))) old mid x) same h) k is
 
-pub domain_tested : (d : DomainAst) (types consts : List Typed) (old m n new : Option Fault) (x y z s t : Option (Unit {0}))
-    → types ≡ d.types → consts ≡ d.constants → IsRead (tested (declared_again [] (names_of types))) old m x → IsRead (tested (declared_again [] (names_of consts))) m n y
-    → IsRead (tested (declared_again [] (heads_of d.preds) ++ (declared_again [] (heads_of d.funcs) ++ declared_again [] (map (λ a. a.name) d.actions)))) n new z
-    → s ≡ option_both second y z → t ≡ option_both second x s → IsRead (tested (domain_again d)) old new t
-domain_tested d types consts old m n new x y z s t same_types same_consts h k last is_s is_t =
-    let signatures : List Fault = declared_again [] (heads_of d.preds) ++ (declared_again [] (heads_of d.funcs) ++ declared_again [] (map (λ a. a.name) d.actions)) in
-    read_tests (declared_again [] (names_of d.types)) (declared_again [] (names_of d.constants) ++ signatures) old m new x s t
-    (subst (λ (ts : List Typed). IsRead (tested (declared_again [] (names_of ts))) old m x) same_types h)
-    (read_tests (declared_again [] (names_of d.constants)) signatures m n new y z s
-    (subst (λ (ts : List Typed). IsRead (tested (declared_again [] (names_of ts))) m n y) same_consts k) last is_s) is_t
+pub others_tested : (d : DomainAst) (consts : List Typed) (old mid new : Option Fault) (x y z : Option (Unit {0}))
+    → consts ≡ d.constants → IsRead (tested (declared_again [] (names_of consts))) old mid x
+    → IsRead (tested (declared_again [] (heads_of d.preds) ++ (declared_again [] (heads_of d.funcs) ++ declared_again [] (map (λ a. a.name) d.actions)))) mid new y
+    → z ≡ option_both second x y
+    → IsRead (tested (declared_again [] (names_of d.constants) ++ (declared_again [] (heads_of d.preds) ++ (declared_again [] (heads_of d.funcs) ++ declared_again [] (map (λ a. a.name) d.actions))))) old new z
+others_tested d consts old mid new x y z same h k is =
+    read_tests (declared_again [] (names_of d.constants)) (declared_again [] (heads_of d.preds) ++ (declared_again [] (heads_of d.funcs) ++ declared_again [] (map (λ a. a.name) d.actions))) old mid new x y z
+    (subst (λ (ts : List Typed). IsRead (tested (declared_again [] (names_of ts))) old mid x) same h) k is
+
+pub domain_tested : (d : DomainAst) (types : List Typed) (old mid new : Option Fault) (x y z : Option (Unit {0}))
+    → types ≡ d.types → IsRead (tested (declared_again [] (names_of types))) old mid x
+    → IsRead (tested (declared_again [] (names_of d.constants) ++ (declared_again [] (heads_of d.preds) ++ (declared_again [] (heads_of d.funcs) ++ declared_again [] (map (λ a. a.name) d.actions))))) mid new y
+    → z ≡ option_both second x y → IsRead (tested (domain_again d)) old new z
+domain_tested d types old mid new x y z same h k is =
+    read_tests (declared_again [] (names_of d.types))
+    (declared_again [] (names_of d.constants) ++ (declared_again [] (heads_of d.preds) ++ (declared_again [] (heads_of d.funcs) ++ declared_again [] (map (λ a. a.name) d.actions)))) old mid new x y z
+    (subst (λ (ts : List Typed). IsRead (tested (declared_again [] (names_of ts))) old mid x) same h) k is
+
+pub names_kept : (items same : List Typed) (table : List (List ℕ)) → items ≡ same → table ≡ distinct (texts (names_of items)) → table ≡ distinct (texts (names_of same))
+names_kept items same table are is = is ∙ ap (λ (ts : List Typed). distinct (texts (names_of ts))) are
 
 pub heads_kept : (heads same : List Head) (table : List (List ℕ)) → heads ≡ same → table ≡ distinct (texts (heads_of heads)) → table ≡ distinct (texts (heads_of same))
 heads_kept heads same table are is = is ∙ ap (λ (hs : List Head). distinct (texts (heads_of hs))) are
 
-pub domain_tables : (d : DomainAst) (types consts : List Typed) (t o p f : List (List ℕ)) → types ≡ d.types → consts ≡ d.constants
-    → t ≡ type_names types → o ≡ distinct (texts (names_of consts)) → p ≡ distinct (texts (heads_of d.preds)) → f ≡ distinct (texts (heads_of d.funcs))
+pub domain_tables : (d : DomainAst) (types : List Typed) (t o p f : List (List ℕ)) → types ≡ d.types
+    → t ≡ type_names types → o ≡ distinct (texts (names_of d.constants)) → p ≡ distinct (texts (heads_of d.preds)) → f ≡ distinct (texts (heads_of d.funcs))
     → (record { types = t; objects = o; preds = p; funcs = f; params = [] }) ≡ domain_scope d
-domain_tables d types consts t o p f same_types same_consts is_t is_o at_p at_f =
+domain_tables d types t o p f same_types is_t at_o at_p at_f =
     let at_t : t ≡ type_names d.types = is_t ∙ ap type_names same_types in
-    let at_o : o ≡ distinct (texts (names_of d.constants)) = is_o ∙ ap (λ (ts : List Typed). distinct (texts (names_of ts))) same_consts in
     ap (λ (l : List (List ℕ)). let s : Scope = record { types = l; objects = o; preds = p; funcs = f; params = [] } in s) at_t
     ∙ ap (λ (l : List (List ℕ)). let s : Scope = record { types = type_names d.types; objects = l; preds = p; funcs = f; params = [] } in s) at_o
     ∙ ap (λ (l : List (List ℕ)). let s : Scope = record { types = type_names d.types; objects = distinct (texts (names_of d.constants)); preds = l; funcs = f; params = [] } in s) at_p
@@ -135,3 +149,17 @@ domain_some d scope old mid new t x y front actions types h same k is some typed
     (mapped_some (assembled (types_in d.types)) (beside (domain_again d) (parts_beside (domain_scope d) d)) old new y (front, actions) (parts_with types front.0.0 front.0.1 front.1 actions)
     (read_beside (domain_again d) (parts_beside (domain_scope d) d) old mid new t x y h (subst (λ (s : Scope). IsRead (parts_beside s d) mid new x) same k) is) some
     (ap (λ (ts : List TypeName). parts_with ts front.0.0 front.0.1 front.1 actions) typed))
+
+-- what a domain declares where there are parts
+pub domain_read : (d : DomainAst) (scope : Scope) (old mid new : Option Fault) (t : Option (Unit {0})) (x y : Option (((List Object × List Signature) × List Signature) × List Action))
+    (types : List TypeName) (z : Option DomainParts)
+    → IsRead (tested (domain_again d)) old mid t → scope ≡ domain_scope d → IsRead (parts_beside scope d) mid new x → y ≡ option_both second t x → types ≡ types_in d.types
+    → z ≡ option_map (λ (p : ((List Object × List Signature) × List Signature) × List Action). parts_with types p.0.0.0 p.0.0.1 p.0.1 p.1) y → IsRead (domain_names d) old new z
+domain_read d scope old mid new t x None types z h same k is typed at =
+    subst (λ (o : Option DomainParts). IsRead (domain_names d) old new o) (sym at) (domain_none d scope old mid new t x None h same k is refl)
+domain_read d scope old mid new t x (Some p) types z h same k is typed at =
+    subst (λ (o : Option DomainParts). IsRead (domain_names d) old new o) (sym at) (domain_some d scope old mid new t x (Some p) p.0 p.1 types h same k is refl typed)
+
+pub tables_kept : (d : DomainAst) (tables : Tables) (made : Option DomainNames) → scope_in tables ≡ domain_scope d → IfSome made (λ n. n.tables ≡ tables) → IfSome made (λ n. scope_in n.tables ≡ domain_scope d)
+tables_kept d tables None same h = h
+tables_kept d tables (Some n) same h = ap scope_in h ∙ same

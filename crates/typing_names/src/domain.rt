@@ -49,6 +49,13 @@ pub struct DomainNames {
 /// The objects and the predicates, the functions, and the actions.
 type DomainFront = ((Items<Object>, Items<Signature>), Items<Signature>);
 
+/// What a domain declares besides its types, where its names have no fault; the types, and those above them.
+type Inside = (
+    Option<(DomainFront, Items<Action>)>,
+    Items<TypeName>,
+    Hierarchy,
+);
+
 fn resolve_parts(
     alloc: Global,
     tables: &Tables,
@@ -75,6 +82,49 @@ fn resolve_parts(
     Ok(pair(front, actions))
 }
 
+/// What a domain declares besides its types, and the types with those above them.
+fn resolve_inside(
+    alloc: Global,
+    tables: &Tables,
+    d: &DomainAst,
+    faults: &mut FirstFault,
+) -> Result<Inside, AllocError>
+    requires actions { list_all is_action d.now.actions ≡ true }
+    requires types { tables.now.types ≡ domain.type_names d.now.types }
+    ensures parts { IfOk result (λ made. IsRead (both pair (both pair (both pair (domain.objects_named tables.now.types d.now.constants) (domain.signatures_named tables.now.types d.now.preds)) (domain.signatures_named tables.now.types d.now.funcs)) (domain.actions_named (scope_in tables.now) d.now.actions)) faults.old faults.new made.0) }
+    ensures types { IfOk result (λ made. made.1 ≡ domain.types_in d.now.types) }
+    ensures above { IfOk result (λ made. made.2 ≡ parents (domain.types_in d.now.types)) }
+{
+    let (types, hierarchy) = resolve_types(alloc, &tables.types, d.types.as_slice())?;
+    let parts = resolve_parts(alloc, tables, d, faults)?;
+    Ok((parts, types, hierarchy))
+}
+
+/// What a domain declares, where there are the parts besides its types.
+fn domain_of(
+    parts: Option<(DomainFront, Items<Action>)>,
+    types: Items<TypeName>,
+    hierarchy: Hierarchy,
+    tables: Tables,
+) -> Option<DomainNames>
+    ensures parts { option_map parts_of result ≡ option_map (λ p. domain.parts_with types p.0.0.0 p.0.0.1 p.0.1 p.1) parts }
+    ensures tables { IfSome result (λ n. n.tables ≡ tables) }
+    ensures above { hierarchy ≡ parents types → IfSome result (λ n. n.hierarchy ≡ parents n.types) }
+{
+    let (front, actions) = parts?;
+    let (declared, funcs) = front;
+    let (objects, preds) = declared;
+    Some(DomainNames {
+        types,
+        objects,
+        preds,
+        funcs,
+        actions,
+        tables,
+        hierarchy,
+    })
+}
+
 /// The whole domain.
 pub fn resolve_domain(
     alloc: Global,
@@ -87,20 +137,7 @@ pub fn resolve_domain(
     ensures above { IfOk result (λ made. IfSome made (λ n. n.hierarchy ≡ parents n.types)) }
 {
     let (new, tables) = declare_domain(alloc, d, faults)?;
-    let parts = resolve_parts(alloc, &tables, d, faults)?;
-    let Some((front, actions)) = beside(new, parts) else {
-        return Ok(None);
-    };
-    let (declared, funcs) = front;
-    let (objects, preds) = declared;
-    let (types, hierarchy) = resolve_types(alloc, &tables.types, d.types.as_slice())?;
-    Ok(Some(DomainNames {
-        types,
-        objects,
-        preds,
-        funcs,
-        actions,
-        tables,
-        hierarchy,
-    }))
+    let (found, types, hierarchy) = resolve_inside(alloc, &tables, d, faults)?;
+    let parts = beside(new, found);
+    Ok(domain_of(parts, types, hierarchy, tables))
 }

@@ -29,6 +29,20 @@ fn test_types(
     Ok(new)
 }
 
+/// The names of the types, and whether each is listed once.
+fn declare_types(
+    alloc: Global,
+    types: &[Typed],
+    faults: &mut FirstFault,
+) -> Result<(Option<()>, NameTable), AllocError>
+    ensures faults { IfOk result (λ made. IsRead (tested (declared_again [] (domain.names_of types.now))) faults.old faults.new made.0) }
+    ensures names { IfOk result (λ made. made.1 ≡ domain.type_names types.now) }
+{
+    let table = type_table(alloc, types)?;
+    let new = test_types(alloc, types, faults)?;
+    Ok((new, table))
+}
+
 /// The names of the objects, and whether each is declared once.
 fn object_names(
     alloc: Global,
@@ -101,6 +115,23 @@ fn declare_signatures(
     Ok((all, preds, funcs))
 }
 
+/// The names of all but the types, and whether each of them and each action is declared once.
+fn declare_others(
+    alloc: Global,
+    d: &DomainAst,
+    faults: &mut FirstFault,
+) -> Result<(Option<()>, NameTable, NameTable, NameTable), AllocError>
+    ensures faults { IfOk result (λ made. IsRead (tested (declared_again [] (domain.names_of d.now.constants) ++ (declared_again [] (domain.heads_of d.now.preds) ++ (declared_again [] (domain.heads_of d.now.funcs) ++ declared_again [] (map (λ a. a.name) d.now.actions))))) faults.old faults.new made.0) }
+    ensures objects { IfOk result (λ made. made.1 ≡ distinct (texts (domain.names_of d.now.constants))) }
+    ensures preds { IfOk result (λ made. made.2 ≡ distinct (texts (domain.heads_of d.now.preds))) }
+    ensures funcs { IfOk result (λ made. made.3 ≡ distinct (texts (domain.heads_of d.now.funcs))) }
+{
+    let (new_objects, objects) = object_names(alloc, d.constants.as_slice(), faults)?;
+    let (later, preds, funcs) = declare_signatures(alloc, d, faults)?;
+    let all = beside(new_objects, later);
+    Ok((all, objects, preds, funcs))
+}
+
 /// The names of each space, and whether each name is declared once.
 pub fn declare_domain(
     alloc: Global,
@@ -110,12 +141,9 @@ pub fn declare_domain(
     ensures faults { IfOk result (λ made. IsRead (tested (domain.domain_again d.now)) faults.old faults.new made.0) }
     ensures names { IfOk result (λ made. scope_in made.1 ≡ domain.domain_scope d.now) }
 {
-    let types = type_table(alloc, d.types.as_slice())?;
-    let new_types = test_types(alloc, d.types.as_slice(), faults)?;
-    let (new_objects, objects) = object_names(alloc, d.constants.as_slice(), faults)?;
-    let (later, preds, funcs) = declare_signatures(alloc, d, faults)?;
-    let behind = beside(new_objects, later);
-    let all = beside(new_types, behind);
+    let (new_types, types) = declare_types(alloc, d.types.as_slice(), faults)?;
+    let (later, objects, preds, funcs) = declare_others(alloc, d, faults)?;
+    let all = beside(new_types, later);
     Ok((
         all,
         Tables {
