@@ -1,7 +1,9 @@
 pub mod Above
 pub mod Answering
+pub mod Candidates
 pub mod Ending
 pub mod Finding
+pub mod Listing
 pub mod Literals
 pub mod Opening
 pub mod Steps

@@ -1,2 +1,3 @@
 pub mod ArgumentLists
+pub mod Index
 pub mod inside

@@ -5,8 +5,11 @@
 //! bound so far holds, and where a static literal binds the next argument, its objects are taken from the facts.
 #![tactic(auto)]
 
+mod choosing;
 mod fitting;
+mod index;
 mod meeting;
 mod search;
 
+pub use index::FactIndex;
 pub use search::Search;

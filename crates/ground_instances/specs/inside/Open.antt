@@ -1,5 +1,5 @@
 -- Whether some first arguments can belong to an argument list: they fit, and the static conditions that they bind hold.
-use Rattle.std.specs.Prelude.{ℕ, Bool, true, not, ◌&&◌, ◌||◌, nat_lt, List, [], ◌∷◌, length}
+use Rattle.std.specs.Prelude.{ℕ, Bool, true, false, ◌==◌, not, ◌&&◌, ◌||◌, nat_lt, List, [], ◌∷◌, length}
 use Rattle.std.specs.List.{list_all}
 use Rattle.pddl_task.specs.declared.action.Action.{Action}
 use Rattle.pddl_task.specs.declared.condition.Cond.{Cond}
@@ -13,6 +13,10 @@ use Rattle.ground_instances.specs.ArgumentLists.{static_met}
 abbrev pub is_bound : ℕ → Term → Bool
 is_bound count (term.Param p) = nat_lt p count
 is_bound count (term.Object o) = true
+
+abbrev pub is_param : ℕ → Term → Bool
+is_param number (term.Param p) = p == number
+is_param number (term.Object o) = false
 
 -- the terms of a literal or of an equality
 abbrev pub terms_of : Cond → List Term
