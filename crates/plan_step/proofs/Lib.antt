@@ -25,3 +25,6 @@ pub mod WideLaws
 pub mod Reasons
 pub mod ReasonLaws
 pub mod Breaking
+pub mod Even
+pub mod Between
+pub mod RolledSteps

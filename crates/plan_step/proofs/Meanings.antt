@@ -106,31 +106,31 @@ module _ (state : PlanState) (args : List ℕ) where
   step : Expr-F (Option Fraction) → Option Fraction
   step = value_step state args
 
-  value-num : (n : Fraction) → value_of state args (expr.Num n) ≡ Some n
+  pub value-num : (n : Fraction) → value_of state args (expr.Num n) ≡ Some n
   unfolding value_of
   value-num n = ap (fold-Expr (Option Fraction) (value_step state args)) (sym (expr.rolls-Num n)) ∙ fold-roll-Expr (Option Fraction) (value_step state args) (Expr-F.Num n)
 
-  value-call : (func : ℕ) (terms : List Term) → value_of state args (expr.Call func terms) ≡ state.value func (objects_of args terms)
+  pub value-call : (func : ℕ) (terms : List Term) → value_of state args (expr.Call func terms) ≡ state.value func (objects_of args terms)
   unfolding value_of
   value-call func terms = ap (fold-Expr (Option Fraction) (value_step state args)) (sym (expr.rolls-Call func terms)) ∙ fold-roll-Expr (Option Fraction) (value_step state args) (Expr-F.Call func terms)
 
-  value-add : (parts : List Expr) → value_of state args (expr.Add parts) ≡ sum_of (map (value_of state args) parts)
+  pub value-add : (parts : List Expr) → value_of state args (expr.Add parts) ≡ sum_of (map (value_of state args) parts)
   unfolding value_of
   value-add parts = ap (fold-Expr (Option Fraction) (value_step state args)) (sym (expr.rolls-Add parts)) ∙ fold-roll-Expr (Option Fraction) (value_step state args) (Expr-F.Add parts)
 
-  value-mul : (parts : List Expr) → value_of state args (expr.Mul parts) ≡ product_of (map (value_of state args) parts)
+  pub value-mul : (parts : List Expr) → value_of state args (expr.Mul parts) ≡ product_of (map (value_of state args) parts)
   unfolding value_of
   value-mul parts = ap (fold-Expr (Option Fraction) (value_step state args)) (sym (expr.rolls-Mul parts)) ∙ fold-roll-Expr (Option Fraction) (value_step state args) (Expr-F.Mul parts)
 
-  value-neg : (a : Expr) → value_of state args (expr.Neg a) ≡ option_map neg_ℚ (value_of state args a)
+  pub value-neg : (a : Expr) → value_of state args (expr.Neg a) ≡ option_map neg_ℚ (value_of state args a)
   unfolding value_of
   value-neg a = ap (fold-Expr (Option Fraction) (value_step state args)) (sym (expr.rolls-Neg a)) ∙ fold-roll-Expr (Option Fraction) (value_step state args) (Expr-F.Neg a)
 
-  value-sub : (a b : Expr) → value_of state args (expr.Sub a b) ≡ with_both minus (value_of state args a) (value_of state args b)
+  pub value-sub : (a b : Expr) → value_of state args (expr.Sub a b) ≡ with_both minus (value_of state args a) (value_of state args b)
   unfolding value_of
   value-sub a b = ap (fold-Expr (Option Fraction) (value_step state args)) (sym (expr.rolls-Sub a b)) ∙ fold-roll-Expr (Option Fraction) (value_step state args) (Expr-F.Sub a b)
 
-  value-div : (a b : Expr) → value_of state args (expr.Div a b) ≡ quotient_of (value_of state args a) (value_of state args b)
+  pub value-div : (a b : Expr) → value_of state args (expr.Div a b) ≡ quotient_of (value_of state args a) (value_of state args b)
   unfolding value_of
   value-div a b = ap (fold-Expr (Option Fraction) (value_step state args)) (sym (expr.rolls-Div a b)) ∙ fold-roll-Expr (Option Fraction) (value_step state args) (Expr-F.Div a b)
 

@@ -9,6 +9,7 @@ pub mod Conditions
 pub mod Effects
 pub mod Step
 pub mod Repeat
+pub mod Rolling
 pub mod Held
 pub mod Making
 pub mod inside
