@@ -1,9 +1,9 @@
 -- Each row uses variables that are made before it.
-use Rattle.std.proofs.Common.{◌≡◌, ℕ, suc, ◌+◌, ◌<◌, ◌≤◌, Bool, true, false, not, cond, List, [], ◌∷◌, ◌++◌, map, length, refl, sym, ap, subst, ◌∙◌, arith, nat_eq, nat_lt, append_assoc}
+use Rattle.std.proofs.Common.{◌≡◌, ℕ, suc, ◌+◌, ◌<◌, ◌≤◌, Bool, true, false, not, cond, List, [], ◌∷◌, ◌++◌, length, refl, sym, ap, subst, ◌∙◌, arith, nat_eq, nat_lt, append_assoc}
 use Rattle.std.specs.Prelude.{⊤}
 use Rattle.std.specs.List.{AllByRecursion}
 use lib.IntN.{pos, negsuc}
-use Rattle.rational.specs.Fraction.{Fraction, whole, neg_ℚ, ◌+ℚ◌, ◌*ℚ◌}
+use Rattle.rational.specs.Fraction.{Fraction, whole, neg_ℚ, ◌+ℚ◌}
 use Rattle.rational.specs.Linear.{Terms}
 use Rattle.lin.specs.Normal.{is_zero, put_first, with_term, collected}
 use Rattle.lin.specs.Linear.{Linear, fixed, var, times, add, scale, subst_from, subst as substituted}

@@ -1,12 +1,12 @@
 -- A numbered clause is true exactly where its row is.
-use Rattle.std.proofs.Common.{◌≡◌, ℕ, Bool, true, false, not, cond, ◌&&◌, ◌||◌, List, [], ◌∷◌, refl, sym, ap, ◌∙◌, nat_eq, nat_lt}
+use Rattle.std.proofs.Common.{◌≡◌, ℕ, Bool, true, false, not, cond, ◌||◌, List, [], ◌∷◌, refl, sym, ap, ◌∙◌, nat_eq, nat_lt}
 use Rattle.std.specs.Prelude.{⊤, Option, Some, None}
-use Rattle.std.proofs.lemmas.Bool.{eqb-true, eq-eqb}
+use Rattle.std.proofs.lemmas.Bool.{eqb-true}
 use Rattle.std.specs.List.{AllByRecursion, list_any}
 use Rattle.rational.specs.Floor.{IsWhole}
-use Rattle.encode.specs.Rows.{Assignment, Literal, true_at, row_at, signed, Item, number, boolean, row, needs, MeetsItem, MeetsAll}
+use Rattle.encode.specs.Rows.{Assignment, Literal, true_at, row_at, signed, Item, number, boolean, row, needs, MeetsAll}
 use Rattle.formula.specs.declared.atom.Lit.{Lit}
-use Rattle.formula.specs.Equal.{same_bool}
+use Rattle.std.specs.Bool.{beq}
 use Rattle.formula.specs.Meets.{truth_at, is_true}
 use Rattle.encode.specs.Numbering.{Key, Plain, always, never, of, plain, index_of, front_of, with_lit, with_numbered, clause_from, clause_of, with_clause, clauses_of}
 use Rattle.encode.proofs.PlainLaws.{is_counted_in, key_true, plain_true, plain-literal}
@@ -29,13 +29,13 @@ module _ (values : List Bool) where
   left_true None = true
   left_true (Some ls) = clause_true values ls
 
-  same_sign : (b c t : Bool) → same_bool b c ≡ true → cond b t (not t) ≡ cond c t (not t)
+  same_sign : (b c t : Bool) → beq b c ≡ true → cond b t (not t) ≡ cond c t (not t)
   same_sign true true t h = refl
   same_sign true false t h = absurd (cc)
   same_sign false true t h = absurd (cc)
   same_sign false false t h = refl
 
-  other_sign : (b c t : Bool) → same_bool b c ≡ false → cond b t (not t) ≡ not (cond c t (not t))
+  other_sign : (b c t : Bool) → beq b c ≡ false → cond b t (not t) ≡ not (cond c t (not t))
   other_sign true true t h = absurd (cc)
   other_sign true false true h = refl
   other_sign true false false h = refl
@@ -64,10 +64,10 @@ module _ (values : List Bool) where
   front_true l None = or-true (is_true values l)
   front_true l (Some ls) = refl
 
-  same_order : (m l : Lit) (b : Bool) → same_bool m.pos l.pos ≡ b → same_bool l.pos m.pos ≡ b
+  same_order : (m l : Lit) (b : Bool) → beq m.pos l.pos ≡ b → beq l.pos m.pos ≡ b
   same_order m l b h = bool_sym l.pos m.pos ∙ h
     where
-      bool_sym : (x y : Bool) → same_bool x y ≡ same_bool y x
+      bool_sym : (x y : Bool) → beq x y ≡ beq y x
       bool_sym true true = refl
       bool_sym true false = refl
       bool_sym false true = refl
@@ -77,16 +77,16 @@ module _ (values : List Bool) where
   with_lit-true l [] = refl
   with_lit-true l (m ∷ ms) = by_order (nat_lt m.boolean l.boolean) (nat_eq m.boolean l.boolean) refl (with_lit-true l ms)
     where
-      by_sign : l.boolean ≡ m.boolean → (s : Bool) → same_bool l.pos m.pos ≡ s → left_true (cond s (Some (m ∷ ms)) None) ≡ (is_true values l || clause_true values (m ∷ ms))
+      by_sign : l.boolean ≡ m.boolean → (s : Bool) → beq l.pos m.pos ≡ s → left_true (cond s (Some (m ∷ ms)) None) ≡ (is_true values l || clause_true values (m ∷ ms))
       by_sign e true h = twice (is_true values m) (clause_true values ms)
           ∙ sym (ap (λ b. b || clause_true values (m ∷ ms)) (ap (λ (n : ℕ). cond l.pos (truth_at values n) (not (truth_at values n))) e ∙ same_sign l.pos m.pos (truth_at values m.boolean) h))
       by_sign e false h = either (is_true values m) (clause_true values ms)
           ∙ sym (ap (λ b. b || clause_true values (m ∷ ms)) (ap (λ (n : ℕ). cond l.pos (truth_at values n) (not (truth_at values n))) e ∙ other_sign l.pos m.pos (truth_at values m.boolean) h))
 
       by_order : (a e : Bool) → nat_eq m.boolean l.boolean ≡ e → left_true (with_lit l ms) ≡ (is_true values l || clause_true values ms)
-          → left_true (cond a (front_of m (with_lit l ms)) (cond e (cond (same_bool m.pos l.pos) (Some (m ∷ ms)) None) (Some (l ∷ m ∷ ms)))) ≡ (is_true values l || clause_true values (m ∷ ms))
+          → left_true (cond a (front_of m (with_lit l ms)) (cond e (cond (beq m.pos l.pos) (Some (m ∷ ms)) None) (Some (l ∷ m ∷ ms)))) ≡ (is_true values l || clause_true values (m ∷ ms))
       by_order true e h ih = front_true m (with_lit l ms) ∙ ap (λ b. is_true values m || b) ih ∙ swap (is_true values m) (is_true values l) (clause_true values ms)
-      by_order false true h ih = by_sign (sym (eqb-true m.boolean l.boolean h)) (same_bool m.pos l.pos) (same_order m l (same_bool m.pos l.pos) refl)
+      by_order false true h ih = by_sign (sym (eqb-true m.boolean l.boolean h)) (beq m.pos l.pos) (same_order m l (beq m.pos l.pos) refl)
       by_order false false h ih = refl
 
 -- the truths of the Booleans are those of what they stand for

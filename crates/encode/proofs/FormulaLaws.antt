@@ -1,16 +1,16 @@
 -- A point meets the numbered formula exactly where its assignment meets the rows of facts; and so the two laws of the formula.
-use Rattle.std.proofs.Common.{◌≡◌, ℕ, zero, suc, ◌<◌, ◌≤◌, Bool, true, false, not, cond, List, [], ◌∷◌, ◌++◌, map, replicate, length, get_or, refl, sym, ap, ap₂, subst, ◌∙◌, arith, length-append}
-use Rattle.std.specs.Prelude.{⊤, Option, Some, None, slice_get, unwrap_or}
-use Rattle.std.specs.List.{AllByRecursion, list_all}
+use Rattle.std.proofs.Common.{◌≡◌, ℕ, zero, suc, ◌<◌, ◌≤◌, Bool, true, false, List, [], ◌∷◌, ◌++◌, map, replicate, length, get_or, refl, sym, ap, subst, ◌∙◌, arith, length-append}
+use Rattle.std.specs.Prelude.{Option, Some, None, slice_get, unwrap_or}
+use Rattle.std.specs.List.{AllByRecursion}
 use Rattle.std.proofs.lemmas.List.{length-map, get_or-map, length-replicate}
 use Rattle.std.proofs.lemmas.Bool.{and_parts, and_from}
 use Rattle.std.proofs.lemmas.Option.{unwrap_or-slice_get}
 use mathlib.Core.Path.{fun_ext}
-use lib.IntN.{ℤ, pos}
+use lib.IntN.{pos}
 use Rattle.rational.specs.Fraction.{Fraction, whole}
 use Rattle.rational.specs.Floor.{IsWhole}
 use Rattle.rational.proofs.OrderLaws.{≤ℚ-same}
-use Rattle.lin.specs.Linear.{point_of, value_of, fixed}
+use Rattle.lin.specs.Linear.{point_of}
 use Rattle.lin.proofs.ValueLaws.{value_fixed}
 use Rattle.task_core.specs.declared.action.GAction.{GAction}
 use Rattle.task_core.specs.State.{State}
@@ -18,12 +18,12 @@ use Rattle.formula.specs.declared.atom.Atom.{Atom}
 use Rattle.formula.specs.declared.atom.Lit.{Lit}
 use Rattle.formula.specs.declared.point.Point.{Point}
 use Rattle.formula.specs.Reading.{Holds, reading_where}
-use Rattle.formula.specs.Meets.{truth_at, is_true, are_met, HoldsAt, Meets, IsSolution}
+use Rattle.formula.specs.Meets.{truth_at, are_met, IsSolution}
 use Rattle.encode.specs.Rows.{Assignment, Name, is_done, Item, MeetsAll}
 use Rattle.encode.specs.Symbolic.{rows_of}
 use Rattle.encode.specs.Numbering.{Key, atom, truth, index_of, counts_of, table_of, clauses_of, atom_in, numbered}
 use Rattle.encode.proofs.PlainLaws.{is_counted_in, atom_true, key_true}
-use Rattle.encode.proofs.TableLaws.{IsIn, IsGood, good_table, good_at, index-key, index-below, table_in}
+use Rattle.encode.proofs.TableLaws.{IsGood, good_table, good_at, index-key, index-below, table_in}
 use Rattle.encode.proofs.ClauseLaws.{Fits, clause_true, clauses-down, clauses-up}
 use Rattle.encode.proofs.Making.{Steady, numbers-whole, whole-from}
 use Rattle.encode.proofs.Readings.{reading-truth, truth-reading}

@@ -15,3 +15,8 @@ pub mod Readings
 pub mod FormulaLaws
 pub mod Spelling
 pub mod MainLaws
+pub mod Examples
+pub mod Passing
+pub mod RoundingLaws
+pub mod BoundLaws
+pub mod RowClauses

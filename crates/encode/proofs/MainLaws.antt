@@ -1,5 +1,5 @@
 -- The two laws in the words of `specs/Laws`.
-use Rattle.std.proofs.Common.{◌≡◌, ◌↔◌, ℕ, zero, suc, ◌<◌, ◌≤◌, Bool, true, false, cond, List, [], ◌∷◌, ◌++◌, map, length, get_or, refl, sym, ap, ap₂, subst, ◌∙◌, nat_lt, nat_eq, arith}
+use Rattle.std.proofs.Common.{◌≡◌, ◌↔◌, ℕ, zero, suc, ◌<◌, ◌≤◌, Bool, true, false, cond, List, [], ◌∷◌, map, length, refl, sym, ap, ap₂, subst, ◌∙◌, nat_lt, nat_eq, arith}
 use Rattle.std.specs.List.{All, AllByRecursion}
 use Rattle.std.proofs.lemmas.Bool.{or_cases, eqb-true}
 use Rattle.std.proofs.lemmas.List.Elements.{All-head, All-tail, All-get_or}
@@ -10,15 +10,14 @@ use Rattle.lin.specs.Linear.{point_of}
 use Rattle.task_core.specs.declared.action.GAction.{GAction}
 use Rattle.task_core.specs.Step.{is_in}
 use Rattle.task_core.specs.Task.{GroundParts, start, idle, action_at, IsActionOf, IsGroundTask}
-use Rattle.task_core.specs.Words.{written_out}
-use Rattle.task_core.specs.Plan.{Run, rolls, Reaches}
+use Rattle.task_core.specs.Plan.{Run, Reaches}
 use Rattle.formula.specs.declared.point.Point.{Point}
 use Rattle.formula.specs.Meets.{truth_at, IsSolution}
 use Rattle.encode.specs.Rows.{is_done, Item}
 use Rattle.encode.specs.Symbolic.{is_counted, next_after}
 use Rattle.encode.specs.Numbering.{truth, index_of, table_of}
-use Rattle.encode.specs.Encoding.{copies, occurrences, items_of, formula_of, counts_from, counts_at}
-use Rattle.encode.specs.Laws.{counted, spelled, SpellsPlan}
+use Rattle.encode.specs.Encoding.{copies, occurrences, items_of, formula_of, counts_from}
+use Rattle.encode.specs.Laws.{spelled, SpellsPlan}
 use Rattle.encode.proofs.Counts.{Says}
 use Rattle.encode.proofs.Words.{AreCounts, word, IsPlan, SaysAll, Apart}
 use Rattle.encode.proofs.FormulaLaws.{assignment_of, formula-spells, formula-has_point}

@@ -1,5 +1,5 @@
 -- The fold that a program makes, item by item, with Booleans numbered as they come: it gives the numbered formula.
-use Rattle.std.proofs.Common.{◌≡◌, ℕ, zero, suc, ◌+◌, ◌<◌, Bool, true, false, cond, ◌&&◌, ◌||◌, inl, inr, List, [], ◌∷◌, ◌++◌, length, get_or, refl, sym, ap, ap₂, subst, ◌∙◌, arith, append_assoc, length-append}
+use Rattle.std.proofs.Common.{◌≡◌, ℕ, zero, suc, ◌+◌, ◌<◌, Bool, true, false, cond, inl, inr, List, [], ◌∷◌, ◌++◌, length, get_or, refl, sym, ap, subst, ◌∙◌, arith, append_assoc, length-append}
 use Rattle.std.specs.Prelude.{Option, Some, None}
 use Rattle.std.specs.Prelude.{⊤}
 use Rattle.std.proofs.lemmas.List.{append-nil, get_or_append_left, get_or_at}
@@ -14,7 +14,7 @@ use Rattle.formula.specs.Atoms.{is_one_count}
 use Rattle.encode.specs.Numbering.{Key, Plain, always, never, of, is_positive, plain_at_most, plain_below, at_most_terms, below_terms, plain_fact, signed_plain, plain, same_key, with_key, index_of, with_plain, with_row, with_item, table_from, table_of, with_lit, with_numbered, clause_from, clause_of, with_clause, clauses_of, counts_of, numbered}
 use Rattle.encode.proofs.PlainLaws.{is_counted_in}
 use Rattle.encode.proofs.ClauseLaws.{NumberMet}
-use Rattle.encode.proofs.TableLaws.{IsIn, PlainIn, RowIn, row_in, plain_in, with_key-keeps}
+use Rattle.encode.proofs.TableLaws.{IsIn, PlainIn, RowIn, row_in, with_key-keeps}
 
 -- ---- what is made so far
 pub record Made : Type 0 where

@@ -6,10 +6,10 @@ use Rattle.algebra.proofs.Solve.{v, k, ◌⊕◌, ◌⊗◌, solve, solve_from, 
 use Rattle.rational.specs.Fraction.{Fraction, whole, ◌+ℚ◌, ◌*ℚ◌}
 use Rattle.rational.specs.Linear.{Terms, coefficient_of}
 use Rattle.rational.proofs.FieldLaws.{fraction-ring}
-use Rattle.lin.specs.Linear.{Linear, value_of}
+use Rattle.lin.specs.Linear.{Linear}
 use Rattle.task_core.specs.declared.action.GAction.{GAction}
 use Rattle.task_core.specs.State.{State}
-use Rattle.task_core.specs.Step.{Holds, ComparisonsHold, is_in, is_empty, set_of, new_value, value_after, after, is_rollable}
+use Rattle.task_core.specs.Step.{Holds, ComparisonsHold, is_in, is_empty, set_of, new_value, after, is_rollable}
 use Rattle.task_core.specs.Plan.{Run}
 use Rattle.task_core.specs.Rolling.{repeated}
 use Rattle.task_core.proofs.GrowthLaws.{whole-suc}

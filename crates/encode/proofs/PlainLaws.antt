@@ -14,7 +14,7 @@ use Rattle.rational.proofs.BoundLaws.{upper_bound, strict_upper_bound, upper_bou
 use Rattle.rational.proofs.Division.{mul-inv}
 use Rattle.rational.proofs.FloorLaws.{IsWhole-floor, IsWhole-ceil, IsWhole-split}
 use Rattle.lin.specs.Normal.{is_zero, IsNormal}
-use Rattle.lin.specs.Linear.{value_of, var, linear_of}
+use Rattle.lin.specs.Linear.{value_of, linear_of}
 use Rattle.lin.proofs.Merging.{normal_parts}
 use Rattle.lin.proofs.ValueLaws.{value_var, value-collected}
 use Rattle.formula.specs.declared.atom.Atom.{Atom}

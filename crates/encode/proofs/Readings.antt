@@ -1,12 +1,11 @@
 -- The reading of an atom's literal says the truth of the atom, for whole counts.
 use Rattle.std.proofs.Common.{◌≡◌, ℕ, Bool, true, false, not, cond, List, [], ◌∷◌, refl, sym, ap, subst, ◌∙◌}
-use Rattle.std.specs.Prelude.{slice_get, unwrap_or}
 use lib.IntN.{ℤ, pos, negsuc}
 use Rattle.algebra.proofs.Solve.{v, k, ◌⊕◌, ◌⊗◌, inv, bound_from, strict_from, le, lt, done}
 use Rattle.rational.specs.Fraction.{Fraction, whole, neg_ℚ, ◌+ℚ◌, ◌*ℚ◌, ◌≤ℚ◌, ◌<ℚ◌}
 use Rattle.rational.specs.Floor.{IsWhole}
 use Rattle.rational.specs.Farkas.{InOrder}
-use Rattle.rational.proofs.FieldLaws.{fraction-ring, whole-add}
+use Rattle.rational.proofs.FieldLaws.{whole-add}
 use Rattle.rational.proofs.Signs.{fraction-order}
 use Rattle.rational.proofs.OrderLaws.{positive-iff, <ℚ-not-≥, ≥-from_not, >-from_not}
 use Rattle.rational.proofs.FloorLaws.{IsWhole-split}
@@ -22,14 +21,14 @@ use Rattle.encode.proofs.RowLaws.{at_most-true, true-at_most, below-true, true-b
 use Rattle.encode.proofs.PlainLaws.{is_counted_in, atom_true}
 use Rattle.encode.proofs.TableLaws.{IsGood}
 
-not_at_most : (x y : Fraction) → y <ℚ x → is_at_most x y ≡ false
+pub not_at_most : (x y : Fraction) → y <ℚ x → is_at_most x y ≡ false
 not_at_most x y h = by_truth (is_at_most x y) refl
   where
     by_truth : (b : Bool) → is_at_most x y ≡ b → b ≡ false
     by_truth true e = absurd (<ℚ-not-≥ y x h (at_most-true x y e))
     by_truth false e = refl
 
-not_below : (x y : Fraction) → y ≤ℚ x → is_below x y ≡ false
+pub not_below : (x y : Fraction) → y ≤ℚ x → is_below x y ≡ false
 not_below x y h = by_truth (is_below x y) refl
   where
     by_truth : (b : Bool) → is_below x y ≡ b → b ≡ false

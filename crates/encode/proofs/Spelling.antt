@@ -1,14 +1,13 @@
 -- The counts of occurrences as a word of n copies, and back.
-use Rattle.std.proofs.Common.{◌≡◌, ◌≤◌, ℕ, zero, suc, ◌+◌, ◌<◌, Bool, true, false, inl, inr, ◌⊎◌, List, [], ◌∷◌, ◌++◌, map, replicate, drop, length, refl, sym, ap, ap₂, subst, ◌∙◌, append_assoc}
-use Rattle.std.specs.Prelude.{⊤, IsTrue}
+use Rattle.std.proofs.Common.{◌≡◌, ◌≤◌, ℕ, zero, suc, ◌⊎◌, List, [], ◌∷◌, ◌++◌, map, replicate, drop, length, refl, sym, ap, ap₂, subst, ◌∙◌, append_assoc}
+use Rattle.std.specs.Prelude.{IsTrue}
 use Rattle.std.specs.List.{AllByRecursion, flat_map}
 use Rattle.task_core.specs.declared.action.GAction.{GAction}
 use Rattle.task_core.specs.Task.{GroundParts, action_at}
 use Rattle.task_core.specs.Words.{written_out, IsPiece, IsWord}
 use Rattle.task_core.specs.Plan.{rolls}
-use Rattle.encode.specs.Encoding.{copies, occurrences}
-use Rattle.encode.specs.Laws.{counted, spelled}
-use Rattle.encode.proofs.Counts.{IsCountOf}
+use Rattle.encode.specs.Encoding.{copies}
+use Rattle.encode.specs.Laws.{counted}
 use Rattle.encode.proofs.Words.{AreCounts, word}
 
 counted-none : (ns : List ℕ) → counted ns [] ≡ []

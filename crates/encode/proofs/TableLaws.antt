@@ -1,5 +1,5 @@
 -- The table has each key that a row uses, at its index; each atom on one count has a whole bound.
-use Rattle.std.proofs.Common.{◌≡◌, ◌≢◌, ℕ, zero, suc, ◌<◌, Bool, true, false, cond, ◌⊎◌, inl, inr, List, [], ◌∷◌, length, get_or, refl, sym, ap, ap₂, subst, ◌∙◌, nat_eq, arith}
+use Rattle.std.proofs.Common.{◌≡◌, ◌≢◌, ℕ, zero, suc, ◌<◌, Bool, true, false, cond, ◌⊎◌, inl, inr, List, [], ◌∷◌, length, get_or, refl, ap, ap₂, ◌∙◌, nat_eq, arith}
 use Rattle.std.proofs.lemmas.Bool.{and_parts, and_from, eqb-true, eq-eqb}
 use Rattle.std.specs.List.{AllByRecursion}
 use Rattle.std.specs.Prelude.{⊤}
@@ -167,7 +167,7 @@ module _ (counts : List Bool) where
   one_count-divided a (t ∷ []) = refl
   one_count-divided a (t ∷ u ∷ us) = refl
 
-  one_count-quotient : (a : Fraction) (ts : Terms) → a ≢ whole (pos 0) → IsNormal ts → is_one_count counts (linear_of (divided a ts) (whole (pos 0))).terms ≡ is_one_count counts ts
+  pub one_count-quotient : (a : Fraction) (ts : Terms) → a ≢ whole (pos 0) → IsNormal ts → is_one_count counts (linear_of (divided a ts) (whole (pos 0))).terms ≡ is_one_count counts ts
   one_count-quotient a ts z n = ap (is_one_count counts) (collected-normal 0 (divided a ts) (divided-normal a z 0 ts n)) ∙ one_count-divided a ts
 
   good_constant : (c : Bool) → GoodPlain (constant_plain c)

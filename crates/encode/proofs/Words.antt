@@ -1,5 +1,5 @@
 -- The two laws over rows of facts: an assignment that meets them spells a word that is a valid plan, and such a word has one.
-use Rattle.std.proofs.Common.{◌≡◌, ℕ, zero, suc, ◌+◌, ◌≤◌, Bool, true, false, cond, inl, inr, List, [], ◌∷◌, ◌++◌, replicate, length, get_or, refl, sym, ap, subst, ◌∙◌, nat_lt, arith, append_assoc, length-append}
+use Rattle.std.proofs.Common.{◌≡◌, ℕ, suc, ◌+◌, ◌≤◌, Bool, true, false, cond, inl, inr, List, [], ◌∷◌, ◌++◌, replicate, length, get_or, refl, sym, ap, subst, ◌∙◌, nat_lt, arith, append_assoc, length-append}
 use Rattle.std.proofs.lemmas.List.{get_or_at}
 use Rattle.std.specs.Prelude.{⊤}
 use lib.IntN.{pos}
@@ -7,7 +7,7 @@ use Rattle.rational.specs.Fraction.{Fraction, whole}
 use Rattle.lin.specs.Linear.{Linear, value_of}
 use Rattle.task_core.specs.declared.action.GAction.{GAction}
 use Rattle.task_core.specs.State.{State}
-use Rattle.task_core.specs.Step.{Holds, is_in, after}
+use Rattle.task_core.specs.Step.{Holds, is_in}
 use Rattle.task_core.specs.Plan.{Run}
 use Rattle.task_core.specs.Rolling.{repeated}
 use Rattle.task_core.proofs.RollingLaws.{rollable-counts}

@@ -1,5 +1,5 @@
 -- The formula of n copies of a pattern of a ground task, and the counts that a point gives to its occurrences.
-use Rattle.std.specs.Prelude.{ℕ, zero, suc, Bool, List, [], ◌∷◌, ◌++◌, map, if◌then◌else◌}
+use Rattle.std.specs.Prelude.{ℕ, zero, suc, List, [], ◌∷◌, ◌++◌, map, if◌then◌else◌}
 use lib.IntN.{pos}
 use Rattle.rational.specs.Fraction.{Fraction, whole}
 use Rattle.lin.specs.Linear.{point_of}

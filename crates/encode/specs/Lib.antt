@@ -3,4 +3,6 @@ pub mod Operations
 pub mod Symbolic
 pub mod Numbering
 pub mod Encoding
+pub mod Refusals
 pub mod Laws
+pub mod inside

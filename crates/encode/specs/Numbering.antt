@@ -1,6 +1,7 @@
 -- Rows of facts become clauses over numbered Booleans. A comparison becomes a literal of an atom, an atom equal to an earlier one
 -- is that earlier one, and rows are simplified. The bounds of counts are rounded, since counts are whole.
-use Rattle.std.specs.Prelude.{ℕ, zero, suc, Bool, true, false, not, ◌&&◌, ◌||◌, List, [], ◌∷◌, ◌++◌, map, length, Option, Some, None, nat_eq, nat_lt, if◌then◌else◌}
+use Rattle.std.specs.Prelude.{ℕ, zero, suc, Bool, true, false, not, ◌&&◌, List, [], ◌∷◌, map, Option, Some, None, nat_eq, nat_lt, if◌then◌else◌}
+use Rattle.std.specs.Bool.{beq}
 use lib.IntN.{ℤ, pos, negsuc, ◌+ℤ◌}
 use lib.Signed.{lt_z}
 use Rattle.rational.specs.Fraction.{Fraction, whole, ◌/ℚ◌, neg_ℚ}
@@ -11,7 +12,7 @@ use Rattle.formula.specs.declared.atom.Atom.{Atom}
 use Rattle.formula.specs.declared.atom.Lit.{Lit}
 use Rattle.formula.specs.Atoms.{is_one_count}
 use Rattle.formula.specs.Contents.{Contents}
-use Rattle.formula.specs.Equal.{same_fraction, same_atom, same_bool}
+use Rattle.formula.specs.Equal.{same_fraction, same_atom}
 use Rattle.encode.specs.Rows.{Name, is_done, behind, Fact, at_most, below, named, Literal, yes, no, lit, is_at_most, is_below, Item, number, boolean, row, needs}
 
 -- what a Boolean stands for
@@ -132,7 +133,7 @@ abbrev pub with_lit : Lit → List Lit → Option (List Lit)
 with_lit l [] = Some (l ∷ [])
 with_lit l (m ∷ ms) =
     if nat_lt m.boolean l.boolean then front_of m (with_lit l ms)
-    else (if nat_eq m.boolean l.boolean then (if same_bool m.pos l.pos then Some (m ∷ ms) else None) else Some (l ∷ m ∷ ms))
+    else (if nat_eq m.boolean l.boolean then (if beq m.pos l.pos then Some (m ∷ ms) else None) else Some (l ∷ m ∷ ms))
 
 abbrev pub with_numbered : List Key → Plain → Option (List Lit) → Option (List Lit)
 with_numbered table q None = None

@@ -1,6 +1,6 @@
 -- The operations that make an expression of a row, each call of `lin` in the order that is written.
 use Rattle.std.specs.Prelude.{ℕ, List, [], ◌∷◌, ◌++◌, if◌then◌else◌}
-use lib.IntN.{pos, negsuc}
+use lib.IntN.{pos}
 use Rattle.rational.specs.Fraction.{Fraction, whole, neg_ℚ, ◌+ℚ◌, ◌*ℚ◌}
 use Rattle.rational.specs.Linear.{Terms, coefficient_of}
 use Rattle.frac128.specs.declared.operations.Wide.{Wide}

@@ -4,7 +4,7 @@
 use Rattle.std.specs.Prelude.{ℕ, suc, ◌+◌, Bool, true, false, not, List, [], ◌∷◌, ◌++◌, length, nat_eq, nat_lt, map, if◌then◌else◌}
 use Rattle.std.specs.List.{flat_map}
 use lib.IntN.{pos, negsuc}
-use Rattle.rational.specs.Fraction.{Fraction, whole}
+use Rattle.rational.specs.Fraction.{whole}
 use Rattle.rational.specs.Linear.{Terms}
 use Rattle.frac128.specs.declared.operations.Wide.{Wide}
 use Rattle.lin.specs.Normal.{is_zero}

@@ -2,4 +2,8 @@
 //! `specs/`, and `laws` says what they mean.
 #![tactic(auto)]
 
+mod bound;
+mod clause;
 pub mod laws;
+mod literal;
+mod rounding;
