@@ -17,6 +17,7 @@ use plan_step::State;
 use std::alloc::{AllocError, Global};
 
 /// What a search goes by: an action of a task, with the task's initial state and the index of its facts.
+#[derive(Drop)]
 pub struct Search<'a> {
     pub alloc: Global,
     pub task: &'a Task,

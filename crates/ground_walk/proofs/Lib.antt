@@ -1,0 +1,4 @@
+pub mod KeptLaws
+pub mod NumberLaws
+pub mod ReadLaws
+pub mod Within
