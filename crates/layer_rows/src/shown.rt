@@ -1,0 +1,133 @@
+//! What the calls answer, as rows show it.
+ghost use Rattle.std.specs.Prelude.{◌≤◌, length};
+
+use frac128::{Frac, Op, Wide};
+use pattern::Pattern;
+use relaxed::{Layers, RangePart, RangeWide};
+use row_files::add_shown;
+use std::alloc::{AllocError, Global};
+use task_core::{GroundTask, rollable};
+
+fn word_of(op: Op) -> &'static str {
+    match op {
+        Op::Add => "add",
+        Op::Sub => "sub",
+        Op::Mul => "mul",
+        Op::Div => "div",
+    }
+}
+
+fn add_fraction(alloc: Global, out: &mut String, value: &Frac) -> Result<(), AllocError> {
+    let mut text = Vec::new(alloc);
+    value.to_text(&mut text)?;
+    add_shown(alloc, out, text.as_slice())
+}
+
+fn add_operation(alloc: Global, out: &mut String, wide: &Wide) -> Result<(), AllocError> {
+    out.push_str(word_of(wide.op))?;
+    out.push_str(" ")?;
+    add_fraction(alloc, out, &wide.x)?;
+    out.push_str(" ")?;
+    add_fraction(alloc, out, &wide.y)
+}
+
+fn show_part(alloc: Global, part: RangePart) -> Result<String, AllocError> {
+    match part {
+        RangePart::Cond(place) => format!(in alloc; "cond {place}"),
+        RangePart::Set(place) => format!(in alloc; "set {place}"),
+    }
+}
+
+/// The layer, the action, the part and the operation.
+pub fn show_wide(alloc: Global, wide: &RangeWide) -> Result<String, AllocError> {
+    let part = show_part(alloc, wide.part)?;
+    let (layer, action) = (wide.layer, wide.action);
+    let mut out = format!(in alloc; "wide {layer} {action} {part} ")?;
+    add_operation(alloc, &mut out, &wide.wide)?;
+    Ok(out)
+}
+
+fn add_first(alloc: Global, out: &mut String, first: Option<u64>) -> Result<(), AllocError> {
+    match first {
+        None => out.push_str(" -"),
+        Some(layer) => out.push_str(format!(in alloc; " {layer}")?.as_str()),
+    }
+}
+
+/// For each action the first layer that supports it, `-` where none does.
+pub fn show_layers(alloc: Global, layers: &Layers, actions: u32) -> Result<String, AllocError>
+    requires { actions ≤ length layers.now }
+{
+    let mut out = String::from_str(alloc, "layers")?;
+    for action in 0..actions {
+        add_first(alloc, &mut out, layers.first(action))?;
+    }
+    Ok(out)
+}
+
+fn rolls(task: &GroundTask, action: u32) -> bool {
+    match task.actions().get(action as usize) {
+        Some(a) => rollable(a),
+        None => false,
+    }
+}
+
+/// Each action of the pattern, behind `roll` or `once`.
+pub fn show_pattern(
+    alloc: Global,
+    task: &GroundTask,
+    pattern: &Pattern,
+) -> Result<String, AllocError> {
+    let mut out = String::from_str(alloc, "pattern")?;
+    for action in pattern.places() {
+        let word = if rolls(task, *action) { "roll" } else { "once" };
+        out.push_str(format!(in alloc; " {word} {action}")?.as_str())?;
+    }
+    Ok(out)
+}
+
+fn add_truths(out: &mut String, task: &GroundTask) -> Result<(), AllocError> {
+    for atom in 0..task.atoms() {
+        out.push_str(if task.atom_at_start(atom) { "1" } else { "0" })?;
+    }
+    Ok(())
+}
+
+fn add_value(alloc: Global, out: &mut String, value: Option<Frac>) -> Result<(), AllocError> {
+    match value {
+        None => out.push_str("none "),
+        Some(value) => {
+            add_fraction(alloc, out, &value)?;
+            out.push_str(" ")
+        }
+    }
+}
+
+fn add_values(alloc: Global, out: &mut String, task: &GroundTask) -> Result<(), AllocError> {
+    for func in 0..task.funcs() {
+        add_value(alloc, out, task.value_at_start(func))?;
+    }
+    Ok(())
+}
+
+fn add_sizes(alloc: Global, out: &mut String, task: &GroundTask) -> Result<(), AllocError> {
+    let goal = task.goal();
+    let (literals, comparisons) = (goal.lits.len(), goal.cmps.len());
+    let sizes = format!(in alloc; "; goal {literals} {comparisons}; actions")?;
+    out.push_str(sizes.as_str())?;
+    for action in task.actions() {
+        out.push_str(if rollable(action) { " roll" } else { " once" })?;
+    }
+    Ok(())
+}
+
+/// What the readers of a task answer: the truths and the values at the start, how many literals and comparisons the goal has, and for
+/// each action whether it may be repeated.
+pub fn show_task(alloc: Global, task: &GroundTask) -> Result<String, AllocError> {
+    let mut out = String::from_str(alloc, "atoms ")?;
+    add_truths(&mut out, task)?;
+    out.push_str("; funcs ")?;
+    add_values(alloc, &mut out, task)?;
+    add_sizes(alloc, &mut out, task)?;
+    Ok(out)
+}
