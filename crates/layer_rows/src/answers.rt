@@ -1,6 +1,6 @@
 //! Which call answers which row, by its name.
 use crate::refusal::Refusal;
-use crate::shown::{show_layers, show_pattern, show_task, show_wide};
+use crate::shown::{show_layers, show_pattern, show_range_wide, show_task};
 use crate::tasks::read_task;
 use pattern::pattern_of;
 use relaxed::{LayerFail, Layers, layers_of};
@@ -43,7 +43,7 @@ fn answer_pattern(alloc: Global, task: &GroundTask) -> Result<String, AllocError
 
 fn show_fail(alloc: Global, fail: &LayerFail) -> Result<String, AllocError> {
     match fail {
-        LayerFail::RangeWide(wide) => show_wide(alloc, wide),
+        LayerFail::RangeWide(wide) => show_range_wide(alloc, wide),
         LayerFail::Memory => Err(AllocError),
     }
 }

@@ -1,35 +1,12 @@
 //! What the calls answer, as rows show it.
 ghost use Rattle.std.specs.Prelude.{◌≤◌, length};
 
-use frac128::{Frac, Op, Wide};
+use frac128::Frac;
 use pattern::Pattern;
 use relaxed::{Layers, RangePart, RangeWide};
-use row_files::add_shown;
+use row_files::{show_fraction, show_wide};
 use std::alloc::{AllocError, Global};
 use task_core::{GroundTask, rollable};
-
-fn word_of(op: Op) -> &'static str {
-    match op {
-        Op::Add => "add",
-        Op::Sub => "sub",
-        Op::Mul => "mul",
-        Op::Div => "div",
-    }
-}
-
-fn add_fraction(alloc: Global, out: &mut String, value: &Frac) -> Result<(), AllocError> {
-    let mut text = Vec::new(alloc);
-    value.to_text(&mut text)?;
-    add_shown(alloc, out, text.as_slice())
-}
-
-fn add_operation(alloc: Global, out: &mut String, wide: &Wide) -> Result<(), AllocError> {
-    out.push_str(word_of(wide.op))?;
-    out.push_str(" ")?;
-    add_fraction(alloc, out, &wide.x)?;
-    out.push_str(" ")?;
-    add_fraction(alloc, out, &wide.y)
-}
 
 fn show_part(alloc: Global, part: RangePart) -> Result<String, AllocError> {
     match part {
@@ -39,12 +16,11 @@ fn show_part(alloc: Global, part: RangePart) -> Result<String, AllocError> {
 }
 
 /// The layer, the action, the part and the operation.
-pub fn show_wide(alloc: Global, wide: &RangeWide) -> Result<String, AllocError> {
-    let part = show_part(alloc, wide.part)?;
+pub fn show_range_wide(alloc: Global, wide: &RangeWide) -> Result<String, AllocError> {
     let (layer, action) = (wide.layer, wide.action);
-    let mut out = format!(in alloc; "wide {layer} {action} {part} ")?;
-    add_operation(alloc, &mut out, &wide.wide)?;
-    Ok(out)
+    let part = show_part(alloc, wide.part)?;
+    let operation = show_wide(alloc, &wide.wide)?;
+    format!(in alloc; "wide {layer} {action} {part} {operation}")
 }
 
 fn add_first(alloc: Global, out: &mut String, first: Option<u64>) -> Result<(), AllocError> {
@@ -97,7 +73,7 @@ fn add_value(alloc: Global, out: &mut String, value: Option<Frac>) -> Result<(),
     match value {
         None => out.push_str("none "),
         Some(value) => {
-            add_fraction(alloc, out, &value)?;
+            out.push_str(show_fraction(alloc, &value)?.as_str())?;
             out.push_str(" ")
         }
     }
