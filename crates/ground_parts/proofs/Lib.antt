@@ -1,0 +1,6 @@
+mod Making
+mod Meeting
+mod Calls
+mod Folding
+mod Answering
+mod Comparing
