@@ -20,3 +20,4 @@ pub mod Passing
 pub mod RoundingLaws
 pub mod BoundLaws
 pub mod RowClauses
+pub mod Joining

@@ -10,18 +10,20 @@ use Rattle.lin.specs.Linear.{point_of}
 use Rattle.task_core.specs.declared.action.GAction.{GAction}
 use Rattle.task_core.specs.Step.{is_in}
 use Rattle.task_core.specs.Task.{GroundParts, start, idle, action_at, IsActionOf, IsGroundTask}
-use Rattle.task_core.specs.Plan.{Run, Reaches}
+use Rattle.task_core.specs.Words.{written_out, IsWord}
+use Rattle.pattern.specs.Word.{parts_of}
+use Rattle.task_core.specs.Plan.{Run, rolls, IsValidPlan, Reaches}
 use Rattle.formula.specs.declared.point.Point.{Point}
 use Rattle.formula.specs.Meets.{truth_at, IsSolution}
 use Rattle.encode.specs.Rows.{is_done, Item}
 use Rattle.encode.specs.Symbolic.{is_counted, next_after}
 use Rattle.encode.specs.Numbering.{truth, index_of, table_of}
-use Rattle.encode.specs.Encoding.{copies, occurrences, items_of, formula_of, counts_from}
+use Rattle.encode.specs.Encoding.{copies, occurrences, items_of, formula_of, counts_from, counts_at}
 use Rattle.encode.specs.Laws.{spelled, SpellsPlan}
 use Rattle.encode.proofs.Counts.{Says}
 use Rattle.encode.proofs.Words.{AreCounts, word, IsPlan, SaysAll, Apart}
 use Rattle.encode.proofs.FormulaLaws.{assignment_of, formula-spells, formula-has_point}
-use Rattle.encode.proofs.Spelling.{each-copies, each-written, spelled-word, spelled-is_word, counts_in, joined}
+use Rattle.encode.proofs.Spelling.{counted, parts-counted, each-copies, each-written, spelled-word, spelled-is_word, counts_in, joined}
 
 module _ (p : Point) (items : List Item) where
   says_count : (i c n : ℕ) (b : Bool) → Says (assignment_of p items) i b c n
@@ -42,16 +44,19 @@ module _ (p : Point) (items : List Item) where
 pub point-plan : (task : GroundParts) (pattern : List ℕ) (n : ℕ) (p : Point) → AllByRecursion (λ a. a < length task.actions) pattern → IsSolution (formula_of task pattern n) p → SpellsPlan task pattern n p
 point-plan task pattern n p numbers m =
     let s = formula-spells (start task) task.goal (occurrences task pattern n) p m in
+    let at : counts_at task pattern n p ≡ map (λ k. whole (pos k)) s.counts = says-counts p (items_of task pattern n) 0 (occurrences task pattern n) 0 s.counts s.says in
+    let same : written_out (counted s.counts (copies n pattern)) ≡ spelled task pattern n p =
+    sym (ap (λ (cs : List Fraction). written_out (parts_of (copies n pattern) cs)) at ∙ parts-counted (copies n pattern) s.counts) in
     record {
       counts = s.counts;
-      at_point = says-counts p (items_of task pattern n) 0 (occurrences task pattern n) 0 s.counts s.says;
-      word = spelled-is_word task n pattern s.counts s.are_counts;
-      valid = record {
+      at_point = at;
+      word = subst (IsWord (rolls task) pattern n) same (spelled-is_word task n pattern s.counts s.are_counts);
+      valid = subst (IsValidPlan task) same (record {
         numbered = each-written (λ a. a < length task.actions) s.counts (copies n pattern) (each-copies (λ a. a < length task.actions) n pattern numbers);
         end = s.plan.0;
         run = subst (λ (us : List GAction). Run (start task) us s.plan.0) (sym (spelled-word task s.counts (copies n pattern))) s.plan.1;
         goal = s.plan.2;
-      };
+      });
     }
 
 -- ---- no atom is both added and deleted by an action of the task
@@ -86,5 +91,5 @@ pub point-exists : (task : GroundParts) (pattern : List ℕ) (n : ℕ) → IsGro
     → Reaches task pattern n ↔ ((p : Point) × IsSolution (formula_of task pattern n) p)
 point-exists task pattern n t numbers = (
   has-point task pattern n t numbers,
-  λ x. let s = point-plan task pattern n x.0 numbers x.1 in record { plan = spelled pattern s.counts n; word = s.word; valid = s.valid },
+  λ x. let s = point-plan task pattern n x.0 numbers x.1 in record { plan = spelled task pattern n x.0; word = s.word; valid = s.valid },
 )

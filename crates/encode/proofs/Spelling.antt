@@ -1,14 +1,35 @@
 -- The counts of occurrences as a word of n copies, and back.
-use Rattle.std.proofs.Common.{◌≡◌, ◌≤◌, ℕ, zero, suc, ◌⊎◌, List, [], ◌∷◌, ◌++◌, map, replicate, drop, length, refl, sym, ap, ap₂, subst, ◌∙◌, append_assoc}
+use Rattle.std.proofs.Common.{◌≡◌, ◌≤◌, ℕ, zero, suc, Bool, true, false, cond, nat_eq, ◌⊎◌, List, [], ◌∷◌, ◌++◌, map, replicate, drop, length, refl, sym, ap, ap₂, subst, ◌∙◌, append_assoc}
 use Rattle.std.specs.Prelude.{IsTrue}
 use Rattle.std.specs.List.{AllByRecursion, flat_map}
+use Rattle.std.proofs.lemmas.Bool.{eqb-true}
+use lib.IntN.{pos}
+use Rattle.rational.specs.Fraction.{whole}
+use Rattle.pattern.specs.Word.{parts_of}
 use Rattle.task_core.specs.declared.action.GAction.{GAction}
 use Rattle.task_core.specs.Task.{GroundParts, action_at}
 use Rattle.task_core.specs.Words.{written_out, IsPiece, IsWord}
 use Rattle.task_core.specs.Plan.{rolls}
 use Rattle.encode.specs.Encoding.{copies}
-use Rattle.encode.specs.Laws.{counted}
 use Rattle.encode.proofs.Words.{AreCounts, word}
+
+-- each place with its count
+abbrev pub counted : List ℕ → List ℕ → List (ℕ × ℕ)
+counted [] places = []
+counted (n ∷ ns) [] = []
+counted (n ∷ ns) (x ∷ xs) = (n, x) ∷ counted ns xs
+
+-- parts with the count 0 spell nothing
+pub parts-counted : (xs ns : List ℕ) → written_out (parts_of xs (map (λ n. whole (pos n)) ns)) ≡ written_out (counted ns xs)
+parts-counted [] [] = refl
+parts-counted [] (n ∷ ns) = refl
+parts-counted (x ∷ xs) [] = refl
+parts-counted (x ∷ xs) (n ∷ ns) = by_test (nat_eq n 0) refl (parts-counted xs ns)
+  where
+    by_test : (b : Bool) → nat_eq n 0 ≡ b → written_out (parts_of xs (map (λ n. whole (pos n)) ns)) ≡ written_out (counted ns xs)
+        → written_out (cond b [] ((n, x) ∷ []) ++ parts_of xs (map (λ n. whole (pos n)) ns)) ≡ replicate n x ++ written_out (counted ns xs)
+    by_test true e ih = ih ∙ ap (λ (m : ℕ). replicate m x ++ written_out (counted ns xs)) (sym (eqb-true n 0 e))
+    by_test false e ih = ap (λ (zs : List ℕ). replicate n x ++ zs) ih
 
 counted-none : (ns : List ℕ) → counted ns [] ≡ []
 counted-none [] = refl

@@ -36,7 +36,7 @@ same_ℤ-self (negsuc m) = self m
 same_fraction-true : (x y : Fraction) → same_fraction x y ≡ true → x ≡ y
 same_fraction-true x y h = let b = and_parts _ _ h in same_parts x y (same_ℤ-true x.num y.num b.0) (eqb-true x.den y.den b.1)
 
-same_fraction-self : (x : Fraction) → same_fraction x x ≡ true
+pub same_fraction-self : (x : Fraction) → same_fraction x x ≡ true
 same_fraction-self x = and_from _ _ (same_ℤ-self x.num) (self x.den)
 
 same_terms-true : (ts us : Terms) → same_terms ts us ≡ true → ts ≡ us
@@ -76,7 +76,7 @@ same_name-self (behind i p) = and_from _ _ (self i) (self p)
 abbrev made : Linear → Bool → Fraction → Atom
 made l s b = record { lin = l; strict = s; bound = b }
 
-same_atom-true : (a b : Atom) → same_fraction a.lin.constant b.lin.constant ≡ true → same_atom a b ≡ true → a ≡ b
+pub same_atom-true : (a b : Atom) → same_fraction a.lin.constant b.lin.constant ≡ true → same_atom a b ≡ true → a ≡ b
 same_atom-true a b c h =
     let x = and_parts _ _ h in
     let y = and_parts _ _ x.1 in

@@ -5,17 +5,13 @@ use Rattle.rational.specs.Fraction.{Fraction, whole}
 use Rattle.lin.specs.Linear.{point_of}
 use Rattle.task_core.specs.declared.action.GAction.{GAction}
 use Rattle.task_core.specs.Task.{GroundParts, start, action_at}
+pub use Rattle.pattern.specs.Word.{copies}
 use Rattle.formula.specs.declared.point.Point.{Point}
 use Rattle.formula.specs.Contents.{Contents}
 use Rattle.formula.specs.Meets.{truth_at}
 use Rattle.encode.specs.Rows.{is_done, Item}
 use Rattle.encode.specs.Symbolic.{is_counted, next_after, rows_of}
 use Rattle.encode.specs.Numbering.{truth, index_of, table_of, numbered}
-
--- n copies in a row
-abbrev pub copies : ℕ → List ℕ → List ℕ
-copies zero pattern = []
-copies (suc n) pattern = pattern ++ copies n pattern
 
 -- the action of each occurrence
 abbrev pub occurrences : GroundParts → List ℕ → ℕ → List GAction

@@ -3,10 +3,10 @@
 use Rattle.std.specs.Prelude.{ℕ, zero, suc, Bool, true, false, not, ◌&&◌, List, [], ◌∷◌, map, Option, Some, None, nat_eq, nat_lt, if◌then◌else◌}
 use Rattle.std.specs.Bool.{beq}
 use lib.IntN.{ℤ, pos, negsuc, ◌+ℤ◌}
-use lib.Signed.{lt_z}
 use Rattle.rational.specs.Fraction.{Fraction, whole, ◌/ℚ◌, neg_ℚ}
 use Rattle.rational.specs.Floor.{floor_of, ceil_of}
 use Rattle.rational.specs.Linear.{Terms}
+pub use Rattle.relaxed.specs.Range.{is_positive}
 use Rattle.lin.specs.Linear.{var, linear_of}
 use Rattle.formula.specs.declared.atom.Atom.{Atom}
 use Rattle.formula.specs.declared.atom.Lit.{Lit}
@@ -30,9 +30,6 @@ constant_plain true = always
 constant_plain false = never
 
 -- ---- the literal of `l <= 0` and of `l < 0`
-abbrev pub is_positive : Fraction → Bool
-is_positive x = lt_z (pos 0) x.num
-
 -- c <= z, c a count
 abbrev pub count_atom : ℕ → ℤ → Key
 count_atom c z = atom (record { lin = var c; strict = false; bound = whole z })

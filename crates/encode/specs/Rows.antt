@@ -3,11 +3,11 @@
 use Rattle.std.specs.Prelude.{◌≡◌, ℕ, Bool, true, false, not, ◌||◌, List, [], ◌∷◌, if◌then◌else◌, ⊤}
 use Rattle.std.specs.List.{AllByRecursion}
 use lib.IntN.{pos}
-use lib.Signed.{non_neg, lt_z}
-use Rattle.rational.specs.Fraction.{Fraction, whole, ◌-ℚ◌}
+use Rattle.rational.specs.Fraction.{Fraction, whole}
 use Rattle.rational.specs.Floor.{IsWhole}
 use Rattle.frac128.specs.declared.operations.Wide.{Wide}
 use Rattle.lin.specs.Linear.{Linear, value_of}
+pub use Rattle.relaxed.specs.Interval.{is_at_most, is_below}
 
 -- the truth variables, each named for what it means: occurrence i is done; the truth of atom p behind occurrence i
 pub data Name : Type 0 where
@@ -34,12 +34,6 @@ opposite (lit b f) = lit (not b) f
 pub record Assignment : Type 0 where
   pub value : ℕ → Fraction
   pub truth : Name → Bool
-
-abbrev pub is_at_most : Fraction → Fraction → Bool
-is_at_most x y = non_neg (y -ℚ x).num
-
-abbrev pub is_below : Fraction → Fraction → Bool
-is_below x y = lt_z (pos 0) (y -ℚ x).num
 
 abbrev pub fact_at : Assignment → Fact → Bool
 fact_at pt (at_most l) = is_at_most (value_of pt.value l) (whole (pos 0))
