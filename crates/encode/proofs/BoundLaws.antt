@@ -22,7 +22,7 @@ use Rattle.encode.specs.declared.bound.Bound.{Bound}
 use Rattle.encode.specs.declared.bound.Bound.TheVariants.{Always, Never, Of}
 use Rattle.encode.specs.Numbering.{atom, Plain, of, constant_plain, is_positive, divided, linear_atom, plain_at_most, plain_below, at_most_terms, below_terms}
 use Rattle.encode.specs.Refusals.{quotient_ops, bound_ops_of, bound_ops}
-use Rattle.encode.specs.inside.Bounds.{rounded, plain_of, HasAtom, constant_compared, rounds_down, count_ops, count_bound, CountAnswers, linear_bound, LinearAnswers, BoundAnswers}
+use Rattle.encode.specs.Bounds.{rounded, plain_of, HasAtom, constant_compared, rounds_down, count_ops, count_bound, CountAnswers, linear_bound, LinearAnswers, BoundAnswers}
 use Rattle.encode.proofs.Quotients.{is_zero-false, divided-normal, times-divided, no_constant, itself}
 use Rattle.encode.proofs.TableLaws.{one_count-quotient}
 

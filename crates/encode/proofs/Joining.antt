@@ -12,8 +12,8 @@ use Rattle.formula.specs.Equal.{same_fraction, same_atom, is_of_atom, boolean_of
 use Rattle.encode.specs.declared.clause.Truth.{Truth}
 use Rattle.encode.specs.declared.clause.Truth.TheVariants.{Of}
 use Rattle.encode.specs.Numbering.{Key, atom, truth, Plain, always, never, of, same_key, with_key, index_of, with_plain, atom_in}
-use Rattle.encode.specs.inside.Clauses.{truth_by}
-use Rattle.encode.specs.inside.Literals.{with_literal, numbered_in}
+use Rattle.encode.specs.Clauses.{truth_by}
+use Rattle.encode.specs.Literals.{with_literal, numbered_in}
 use Rattle.encode.proofs.PlainLaws.{same_truth}
 use Rattle.encode.proofs.TableLaws.{same_atom-true, same_fraction-self, same_key-true, same_key-self}
 

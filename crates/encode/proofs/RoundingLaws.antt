@@ -11,7 +11,7 @@ use Rattle.rational.proofs.OrderLaws.{≤ℚ-cross, <ℚ-weaken, ≤ℚ-same}
 use Rattle.rational.proofs.FloorLaws.{floor_below, floor-iff}
 use Rattle.frac128.specs.Bounds.{IsWithin, IsFrac}
 use Rattle.frac128.specs.Order.{IsFloor}
-use Rattle.encode.specs.inside.Bounds.{compares}
+use Rattle.encode.specs.Bounds.{compares}
 use Rattle.encode.proofs.RowLaws.{true-at_most, true-below}
 use Rattle.encode.proofs.Readings.{not_at_most, not_below}
 

@@ -6,7 +6,7 @@ ghost use Rattle.lin.specs.Operations.{AnswersInMemory};
 ghost use Rattle.lin.specs.Made.{add_ops, div_ops};
 ghost use Rattle.formula.specs.Atoms.{is_one_count};
 ghost use Rattle.encode.specs.Numbering.{is_positive};
-ghost use Rattle.encode.specs.inside.Bounds.{plain_of, compares, constant_compared, rounds_down, CountAnswers, LinearAnswers, BoundAnswers};
+ghost use Rattle.encode.specs.Bounds.{plain_of, compares, constant_compared, rounds_down, CountAnswers, LinearAnswers, BoundAnswers};
 
 use crate::rounding::rounded;
 use formula::{Atom, Formula};
@@ -24,12 +24,7 @@ pub enum Bound {
 }
 
 /// The literal of `l < 0` where it is strict, and else of `l <= 0`.
-pub(crate) fn bound_of(
-    alloc: Global,
-    formula: &Formula,
-    l: &Lin,
-    strict: bool,
-) -> Result<Bound, LinFail>
+pub fn bound_of(alloc: Global, formula: &Formula, l: &Lin, strict: bool) -> Result<Bound, LinFail>
     requires { AreBelow (length formula.now.counts) l.now.terms }
     ensures { BoundAnswers formula.now.counts strict l.now result }
 {

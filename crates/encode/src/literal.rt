@@ -1,7 +1,7 @@
 //! The numbered literal of a comparison with 0. Begin with `literal_of`.
 ghost use Rattle.std.specs.Prelude.{length};
 ghost use Rattle.lin.specs.Linear.{AreBelow};
-ghost use Rattle.encode.specs.inside.Literals.{LiteralAnswers};
+ghost use Rattle.encode.specs.Literals.{LiteralAnswers};
 
 use crate::bound::{Bound, bound_of};
 use crate::clause::Truth;
@@ -10,7 +10,7 @@ use lin::{Lin, LinFail};
 use std::alloc::Global;
 
 /// The literal of `l < 0` where it is strict, and else of `l <= 0`. Its atom is made where no equal one is there.
-pub(crate) fn literal_of(
+pub fn literal_of(
     alloc: Global,
     formula: &mut Formula,
     l: &Lin,

@@ -2,7 +2,7 @@
 ghost use Rattle.std.specs.Prelude.{◌≡◌, true, false};
 ghost use Rattle.rational.specs.Fraction.{whole};
 ghost use Rattle.rational.specs.Floor.{floor_of, ceil_of};
-ghost use Rattle.encode.specs.inside.Bounds.{RoundingAnswers, SuccessorAnswers, PredecessorAnswers};
+ghost use Rattle.encode.specs.Bounds.{RoundingAnswers, SuccessorAnswers, PredecessorAnswers};
 
 use frac128::{Frac, Wide};
 

@@ -1,6 +1,6 @@
 use Rattle.std.proofs.Common.{◌∙◌, sym, subst}
 use Rattle.rational.specs.Fraction.{Fraction}
-use Rattle.encode.specs.inside.Bounds.{CountAnswers}
+use Rattle.encode.specs.Bounds.{CountAnswers}
 use Rattle.encode.proofs.BoundLaws.{first-nonzero, count-answers, linear-answers}
 use Rattle.encode.proofs.bound.bound_of.Goals as goal
 

@@ -6,7 +6,7 @@ use Rattle.rational.proofs.FieldLaws.{quotient-itself}
 use Rattle.frac128.specs.Operations.{Fits, Answers}
 use Rattle.frac128.specs.declared.operations.Op.TheVariants.{Sub}
 use Rattle.frac128.specs.declared.operations.Wide.{Wide}
-use Rattle.encode.specs.inside.Bounds.{PredecessorAnswers}
+use Rattle.encode.specs.Bounds.{PredecessorAnswers}
 use Rattle.encode.proofs.Passing.{passes-first}
 use Rattle.encode.proofs.rounding.predecessor.Goals as goal
 

@@ -9,7 +9,7 @@ use Rattle.encode.specs.declared.clause.Truth.{Truth}
 use Rattle.encode.specs.declared.clause.Truth.TheVariants.{Yes, No, Of}
 use Rattle.encode.specs.Numbering.{atom, truth, Plain, always, never, of}
 use Rattle.encode.specs.Refusals.{bound_ops}
-use Rattle.encode.specs.inside.Bounds.{compared}
+use Rattle.encode.specs.Bounds.{compared}
 
 -- an atom is made where no equal one has a Boolean
 abbrev pub with_literal : Plain → Contents → Contents
