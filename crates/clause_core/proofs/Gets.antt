@@ -1,7 +1,8 @@
 -- Elements of a list after a write or a push.
-use Rattle.std.proofs.Common.{◌≡◌, ◌≢◌, ℕ, zero, suc, ◌<◌, List, [], ◌∷◌, ◌++◌, length, Some, set, get_or, refl, ap, arith, inl, inr, ◌∙◌, ◌⊎◌}
+use Rattle.std.proofs.Common.{◌≡◌, ◌≢◌, ℕ, zero, suc, ◌<◌, List, [], ◌∷◌, ◌++◌, length, Some, set, get_or, take, drop, refl, sym, ap, arith, inl, inr, subst, ◌∙◌, ◌⊎◌}
 use Rattle.std.specs.List.{slice_get}
 use Rattle.std.proofs.lemmas.Option.{slice_get-get_or}
+use Rattle.std.proofs.lemmas.List.{take_at}
 
 pub get-set_same : {A : Type 0} (xs : List A) (i : ℕ) (v : A) → i < length xs → slice_get (set xs i v) i ≡ Some v
 get-set_same [] i v h = absurd (omega arith)
@@ -43,3 +44,7 @@ get-at (x ∷ xs) (suc i) h = get-at xs i (omega arith)
 
 pub get-from : {A : Type 0} (xs : List A) (i : ℕ) (d x : A) → i < length xs → get_or xs i d ≡ x → slice_get xs i ≡ Some x
 get-from xs i d x lt e = slice_get-get_or xs i d lt ∙ ap Some e
+
+-- what was written back through a slice of a whole list
+pub written : {A : Type 0} (P : List A → Type 0) (n : ℕ) (new old : List A) → n ≡ length new → P new → P (take n (new ++ drop (length new) old))
+written P n new old e h = subst P (sym (ap (λ (m : ℕ). take m (new ++ drop (length new) old)) e ∙ take_at new (drop (length new) old) (length new) refl)) h

@@ -18,3 +18,6 @@ pub mod Logs
 pub mod Licences
 pub mod Learned
 pub mod Rising
+pub mod Settled
+pub mod Chains
+pub mod Choices

@@ -1,5 +1,5 @@
 -- A learned clause contains no earlier one.
-use Rattle.std.proofs.Common.{◌≡◌, ◌≢◌, ℕ, ◌<◌, ◌≤◌, ◌+◌, Bool, true, false, List, [], ◌∷◌, length, take, set, length-set, Option, Some, None, refl, sym, ap, arith, inl, inr, subst, ◌∙◌, ◌⊎◌}
+use Rattle.std.proofs.Common.{◌≡◌, ℕ, ◌<◌, ◌≤◌, ◌+◌, Bool, true, false, List, [], ◌∷◌, length, take, set, length-set, Option, Some, None, refl, sym, ap, arith, inl, inr, subst, ◌∙◌, ◌⊎◌}
 use Rattle.std.specs.List.{slice_get, Contains, All}
 use Rattle.std.proofs.lemmas.Bool.{cases_eq, cases_lt}
 use Rattle.std.proofs.lemmas.Option.{same_Some}
@@ -13,10 +13,10 @@ use Rattle.clause_core.specs.Cored.{Cored, IsComplete, IsQuiet, IsOpen}
 use Rattle.clause_core.specs.Solving.{lits_of, HasDecisionAt}
 use Rattle.clause_core.specs.Licence.{IsNew, IsLeft, HasOneLeft}
 use Rattle.clause_core.proofs.Gets.{get-within, get-set_same, get-set_other}
-use Rattle.clause_core.proofs.Rup.{not_opposite, same_stand, opposite-opposite, cons_same}
+use Rattle.clause_core.proofs.Rup.{not_opposite, same_stand, opposite-opposite, cons_same, lit_or}
 use Rattle.clause_core.proofs.Bridge.{lits_stand, stand_lits}
 use Rattle.clause_core.proofs.Backs.{get-take, get-take_in}
-use Rattle.clause_core.proofs.Points.{lit_same, moved}
+use Rattle.clause_core.proofs.Points.{moved}
 use Rattle.formula.specs.declared.atom.Atom.{Atom}
 use Rattle.formula.specs.Contents.{is_clause}
 use Rattle.rational.specs.Fraction.{Fraction}
@@ -132,18 +132,6 @@ pub has_reason : (entries : List Entry) (i : ℕ) (e : Entry) (k : ℕ) → slic
 has_reason entries i e k at r d =
     let n : None ≡ e.reason = ap (λ (x : Entry). x.reason) (same_Some _ _ (sym d.1 ∙ at)) in
     cc
-
-bool_or : (a b : Bool) → (a ≡ b) ⊎ (a ≢ b)
-bool_or true true = inl refl
-bool_or true false = inr (λ e. cc)
-bool_or false true = inr (λ e. cc)
-bool_or false false = inl refl
-
-lit_or : (l m : Lit) → (l ≡ m) ⊎ (l ≢ m)
-lit_or l m = elim (cases_eq l.boolean m.boolean) as (λ _. (l ≡ m) ⊎ (l ≢ m)) [
-  | inl b ↦ elim (bool_or l.pos m.pos) as (λ _. (l ≡ m) ⊎ (l ≢ m)) [ inl p ↦ inl (lit_same l m b p) | inr np ↦ inr (λ e. np (ap (λ (x : Lit). x.pos) e)) ]
-  | inr nb ↦ inr (λ e. nb (ap (λ (x : Lit). x.boolean) e))
-]
 
 -- what the reason marks stands before the place
 pub marked_below : (clauses : List (List Lit)) (entries : List Entry) (old new : List Bool) (place k : ℕ) (l : Lit) (c : List Lit) → IsApart entries → IsJustified clauses entries → slice_get entries place ≡ Some (record { lit = l; reason = Some k }) → slice_get clauses k ≡ Some c → slice_get old place ≡ Some true → ((p : ℕ) → slice_get new p ≡ Some true → (slice_get old p ≡ Some true) ⊎ ((m : Lit) × Contains c m × (q : Lit) × Stands entries p q × (q.boolean ≡ m.boolean))) → (p : ℕ) → slice_get new p ≡ Some true → place ≤ p → slice_get old p ≡ Some true

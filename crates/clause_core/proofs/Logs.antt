@@ -1,20 +1,25 @@
 -- A log with one more step.
-use Rattle.std.proofs.Common.{◌≡◌, ℕ, ◌≤◌, ◌+◌, Bool, List, [], ◌∷◌, ◌++◌, Option, Some, Result, refl, sym, ap, arith, subst, ◌∙◌, inl, inr, append_assoc, append-nil, length-append}
+use Rattle.std.proofs.Common.{◌≡◌, ℕ, ◌≤◌, ◌+◌, Bool, List, [], ◌∷◌, ◌++◌, Option, Some, Err, Result, min, ◌^◌, ◌-◌, refl, sym, ap, arith, subst, ◌∙◌, inl, inr, append_assoc, append-nil, length-append}
 use Rattle.std.specs.List.{Contains, AllByRecursion}
 use Rattle.std.proofs.lemmas.Option.{same_Some}
 use Rattle.std.proofs.lemmas.List.Elements.{Contains-push, Contains-push_cases}
 use Rattle.formula.specs.declared.atom.Lit.{Lit}
 use Rattle.formula.specs.declared.atom.Atom.{Atom}
 use Rattle.formula.specs.Contents.{Contents}
+use Rattle.theory_law.specs.declared.verdict.TheoryFail.{TheoryFail}
+use Rattle.theory_law.specs.declared.verdict.TheoryFail.TheVariants as theory
 use Rattle.theory_law.specs.declared.trace.Trace.{Trace}
 use Rattle.theory_law.specs.declared.log.LogStep.{LogStep}
 use Rattle.theory_law.specs.declared.log.LogStep.TheVariants.{Lemma, Learn, Split}
 use Rattle.theory_law.specs.Log.{after, after_log, HasEmpty, IsSound, IsSoundLog}
 use Rattle.theory_law.specs.Licence.{IsLicensed, IsLicensedLog}
+use Rattle.theory_law.specs.Sinks.{Rose}
+use Rattle.theory_law.specs.Verdicts.{FailHolds}
 use Rattle.clause_core.specs.declared.solving.Outcome.{Outcome}
 use Rattle.clause_core.specs.declared.solving.CoreFail.{CoreFail}
-use Rattle.clause_core.specs.Stepping.{StepHolds, SplitsOnlyIf, step_clause}
-use Rattle.clause_core.specs.Solved.{IsHandedOver, ResultHolds, SinkHolds, IsStopped, IsSolved}
+use Rattle.clause_core.specs.declared.solving.CoreFail.TheVariants.{Wide, Pivots, Memory}
+use Rattle.clause_core.specs.Stepping.{StepHolds, SplitsOnlyIf, IsStuck, step_clause}
+use Rattle.clause_core.specs.Solved.{IsHandedOver, ResultHolds, SinkHolds, IsStopped, IsSolved, core_fail}
 use Rattle.clause_core.specs.Handing.{IsHanded}
 
 after_push : {W : Type 0} (f : Contents) (log : List (LogStep W)) (s : LogStep W) → after_log f (log ++ s ∷ []) ≡ after (after_log f log) s
@@ -75,6 +80,25 @@ solved {base = base} {now = now} {n = n} h Now Stuck pivots Stopped was is steps
       subst (λ (k : ℕ). ResultHolds Stuck pivots (after_log base h.log) k steps result) (sym h.counted)
       (subst (λ (x : Contents). ResultHolds Stuck pivots x n steps result) h.formula answer);
 }
+
+pub solved_fail : {W : Type 0} {Shown : List Bool → List (Option Atom) → List Lit → W → Type 0} {cuts : Bool} {base now : Contents} {Before Now : List (LogStep W) → Type 0} {n : ℕ} (h : IsHanded Shown cuts base now Before Now n) (Stuck : List Bool → List (Option Atom) → ℕ → Trace → Type 0) (pivots : ℕ) (Stopped : List (LogStep W) → LogStep W → Type 0) (was is steps : ℕ) (fail : TheoryFail) (r : CoreFail) → r ≡ core_fail fail → n ≤ steps → FailHolds (IsStuck Stuck now pivots) fail → IsSolved Shown Stuck cuts pivots base Before Now Stopped was is steps (Err r)
+solved_fail {Shown = Shown} {cuts = cuts} {base = base} {Before = Before} {Now = Now} h Stuck pivots Stopped was is steps (theory.Wide t) r e le f =
+    subst (λ (x : CoreFail). IsSolved Shown Stuck cuts pivots base Before Now Stopped was is steps (Err x)) (sym e) (solved h Now Stuck pivots Stopped was is steps (Err (Wide t)) le h.handed f)
+solved_fail {Shown = Shown} {cuts = cuts} {base = base} {Before = Before} {Now = Now} h Stuck pivots Stopped was is steps (theory.Pivots t) r e le f =
+    subst (λ (x : CoreFail). IsSolved Shown Stuck cuts pivots base Before Now Stopped was is steps (Err x)) (sym e) (solved h Now Stuck pivots Stopped was is steps (Err (Pivots t)) le h.handed f)
+solved_fail {Shown = Shown} {cuts = cuts} {base = base} {Before = Before} {Now = Now} h Stuck pivots Stopped was is steps theory.Memory r e le f =
+    subst (λ (x : CoreFail). IsSolved Shown Stuck cuts pivots base Before Now Stopped was is steps (Err x)) (sym e) (solved h Now Stuck pivots Stopped was is steps (Err Memory) le h.handed tt)
+
+-- the sink was stopped in a further step
+pub stopped : {W : Type 0} {Shown : List Bool → List (Option Atom) → List Lit → W → Type 0} {cuts : Bool} {base now : Contents} {Before Handed : List (LogStep W) → Type 0} {n : ℕ} (h : IsHanded Shown cuts base now Before Handed n) (Stopped : List (LogStep W) → LogStep W → Type 0) (was is : ℕ) (s : LogStep W) → StepHolds Shown cuts now s → ((l : List (LogStep W)) → Handed l → Stopped l s) → Rose was is → IsStopped Shown cuts base Before Stopped was is h.log
+stopped h Stopped was is s t hand rose = record { step = s; holds = holds_at h s t; stopped = λ l b. hand (l ++ h.log) (h.handed l b); rose = rose }
+
+rose_under : (most was before now : ℕ) → was ≤ before → min (before + 1) most ≤ now → min (was + 1) most ≤ now
+rose_under most was before now le h = omega (arith, le, h)
+
+-- since an earlier count
+pub rose_since : (was before now : ℕ) → was ≤ before → Rose before now → Rose was now
+rose_since was before now le h = rose_under (2 ^ 64 - 1) was before now le h
 
 -- ---- the empty clause
 

@@ -22,6 +22,7 @@ use Rattle.clause_core.specs.Solving.{lits_of, IsWithin}
 use Rattle.clause_core.specs.Stepping.{AtPoint}
 use Rattle.clause_core.specs.Searching.{IsDone}
 use Rattle.clause_core.proofs.Gets.{get-at}
+use Rattle.clause_core.proofs.Rup.{lit_same}
 use Rattle.clause_core.proofs.Bridge.{stand_lits}
 
 bool_cases : (a b : Bool) → (a ≡ b) ⊎ (a ≡ not b)
@@ -29,10 +30,6 @@ bool_cases true true = inl refl
 bool_cases true false = inr refl
 bool_cases false true = inr refl
 bool_cases false false = inl refl
-
-pub lit_same : (l m : Lit) → l.boolean ≡ m.boolean → l.pos ≡ m.pos → l ≡ m
-lit_same l m b p =
-    ap (λ (n : ℕ). let x : Lit = record { boolean = n; pos = l.pos } in x) b ∙ ap (λ (t : Bool). let x : Lit = record { boolean = m.boolean; pos = t } in x) p
 
 -- two literals of one Boolean
 lit_cases : (l m : Lit) → l.boolean ≡ m.boolean → (l ≡ m) ⊎ (l ≡ opposite m)

@@ -1,5 +1,5 @@
 -- From marks to a learned clause.
-use Rattle.std.proofs.Common.{◌≡◌, ℕ, zero, suc, ◌<◌, ◌+◌, Bool, true, false, not, List, [], ◌∷◌, ◌++◌, map, length, Option, Some, None, refl, sym, ap, arith, inl, inr, subst, ◌∙◌, ◌⊎◌}
+use Rattle.std.proofs.Common.{◌≡◌, ◌≢◌, ℕ, zero, suc, ◌<◌, ◌+◌, Bool, true, false, not, List, [], ◌∷◌, ◌++◌, map, length, Option, Some, None, refl, sym, ap, arith, inl, inr, subst, ◌∙◌, ◌⊎◌}
 use Rattle.std.specs.List.{slice_get, Contains}
 use Rattle.std.proofs.lemmas.Option.{same_Some}
 use Rattle.std.proofs.lemmas.Bool.{cases_eq}
@@ -10,13 +10,29 @@ use Rattle.clause_core.specs.declared.trail.Entry.{Entry}
 use Rattle.clause_core.specs.Standing.{Stands, IsApart}
 use Rattle.theory_law.specs.Units.{Follows}
 use Rattle.clause_core.specs.Learning.{IsUnit, IsFalse, Propagates}
-use Rattle.clause_core.specs.Analysis.{IsResolved, IsKept, IsAnalyzed}
+use Rattle.clause_core.specs.Analysis.{IsResolved, IsClosed, IsAllMarked, IsKept, IsAnalyzed, IsChain}
 use Rattle.clause_core.proofs.Gets.{get-within}
 
 pub opposite-opposite : (l : Lit) → opposite (opposite l) ≡ l
 opposite-opposite l =
     let twice : (b : Bool) → not (not b) ≡ b = λ b. elim b as (λ b. not (not b) ≡ b) [ true ↦ refl | false ↦ refl ] in
     ap (λ (b : Bool). let x : Lit = record { boolean = l.boolean; pos = b } in x) (twice l.pos)
+
+pub lit_same : (l m : Lit) → l.boolean ≡ m.boolean → l.pos ≡ m.pos → l ≡ m
+lit_same l m b p =
+    ap (λ (n : ℕ). let x : Lit = record { boolean = n; pos = l.pos } in x) b ∙ ap (λ (t : Bool). let x : Lit = record { boolean = m.boolean; pos = t } in x) p
+
+bool_or : (a b : Bool) → (a ≡ b) ⊎ (a ≢ b)
+bool_or true true = inl refl
+bool_or true false = inr (λ e. cc)
+bool_or false true = inr (λ e. cc)
+bool_or false false = inl refl
+
+pub lit_or : (l m : Lit) → (l ≡ m) ⊎ (l ≢ m)
+lit_or l m = elim (cases_eq l.boolean m.boolean) as (λ _. (l ≡ m) ⊎ (l ≢ m)) [
+  | inl b ↦ elim (bool_or l.pos m.pos) as (λ _. (l ≡ m) ⊎ (l ≢ m)) [ inl p ↦ inl (lit_same l m b p) | inr np ↦ inr (λ e. np (ap (λ (x : Lit). x.pos) e)) ]
+  | inr nb ↦ inr (λ e. nb (ap (λ (x : Lit). x.boolean) e))
+]
 
 pub not_opposite : (l : Lit) → l ≡ opposite l → ⊥
 not_opposite l e =
@@ -54,24 +70,22 @@ from_opposites (x ∷ clause) l h = elim (in_cons (opposite x) l (map opposite c
 ]
 
 -- the literals that are true once the resolved places below i were propagated
-pub record IsReached (entries : List Entry) (marked resolved : List Bool) (i : ℕ) (truths : List Lit) : Type 0 where
-  pub sound : (l : Lit) → Contains truths l → (p : ℕ) × Stands entries p l × (slice_get marked p ≡ Some true) × ((slice_get resolved p ≡ Some false) ⊎ ((p < i) × (slice_get resolved p ≡ Some true)))
+pub record IsReached (entries : List Entry) (marked resolved : List Bool) (before : List Lit) (i : ℕ) (truths : List Lit) : Type 0 where
+  pub given : (l : Lit) → Contains before l → Contains truths l
+  pub sound : (l : Lit) → Contains truths l → Contains before l ⊎ ((p : ℕ) × Stands entries p l × (p < i) × (slice_get resolved p ≡ Some true))
   pub complete : (p : ℕ) (l : Lit) → Stands entries p l → slice_get marked p ≡ Some true → ((slice_get resolved p ≡ Some false) ⊎ (p < i)) → Contains truths l
 
-pub reached_start : (entries : List Entry) (marked resolved : List Bool) (clause : List Lit) → IsKept entries marked resolved clause → IsReached entries marked resolved 0 (map opposite clause)
-reached_start entries marked resolved clause k = record {
-  sound = λ l h.
-      let s = k.sound (opposite l) (from_opposites clause l h) in
-      (s.0, subst (λ (x : Lit). Stands entries s.0 x) (opposite-opposite l) s.1, s.2, inl s.3);
-  complete = λ p l s m r. elim r [
-    | inl f ↦ subst (λ (x : Lit). Contains (map opposite clause) x) (opposite-opposite l) (in_opposites clause (opposite l) (k.complete p l s m f))
-    | inr lt ↦ absurd (omega arith)
-  ];
+pub reached_start : {clauses : List (List Lit)} {entries : List Entry} {marked resolved : List Bool} {at : ℕ} {before : List Lit} → IsAnalyzed clauses entries marked resolved at before → IsReached entries marked resolved before 0 before
+reached_start a = record {
+  given = λ l h. h;
+  sound = λ l h. inl h;
+  complete = λ p l s m r. elim r [ inl f ↦ a.given p l s m f | inr lt ↦ absurd (omega arith) ];
 }
 
-pub reached_skip : (entries : List Entry) (marked resolved : List Bool) (i : ℕ) (truths : List Lit) → slice_get resolved i ≡ Some false → IsReached entries marked resolved i truths → IsReached entries marked resolved (i + 1) truths
-reached_skip entries marked resolved i truths unset h = record {
-  sound = λ l c. let s = h.sound l c in (s.0, s.1, s.2, elim s.3 [ inl f ↦ inl f | inr (lt, r) ↦ inr (omega arith, r) ]);
+pub reached_skip : (entries : List Entry) (marked resolved : List Bool) (before : List Lit) (i : ℕ) (truths : List Lit) → slice_get resolved i ≡ Some false → IsReached entries marked resolved before i truths → IsReached entries marked resolved before (i + 1) truths
+reached_skip entries marked resolved before i truths unset h = record {
+  given = h.given;
+  sound = λ l c. elim (h.sound l c) [ inl b ↦ inl b | inr s ↦ inr (s.0, s.1, omega (arith, s.2), s.3) ];
   complete = λ p l s m r. elim r [
     | inl f ↦ h.complete p l s m (inl f)
     | inr lt ↦ elim (cases_eq p i) [
@@ -81,11 +95,12 @@ reached_skip entries marked resolved i truths unset h = record {
   ];
 }
 
-pub reached_push : (entries : List Entry) (marked resolved : List Bool) (i : ℕ) (truths : List Lit) (lit : Lit) → slice_get resolved i ≡ Some true → slice_get marked i ≡ Some true → Stands entries i lit → IsReached entries marked resolved i truths → IsReached entries marked resolved (i + 1) (lit ∷ truths)
-reached_push entries marked resolved i truths lit was here at h = record {
+pub reached_push : (entries : List Entry) (marked resolved : List Bool) (before : List Lit) (i : ℕ) (truths : List Lit) (lit : Lit) → slice_get resolved i ≡ Some true → Stands entries i lit → IsReached entries marked resolved before i truths → IsReached entries marked resolved before (i + 1) (lit ∷ truths)
+reached_push entries marked resolved before i truths lit was at h = record {
+  given = λ l c. cons_in lit l truths (h.given l c);
   sound = λ l c. elim (in_cons lit l truths c) [
-    | inl e ↦ (i, subst (λ (x : Lit). Stands entries i x) e at, here, inr (omega arith, was))
-    | inr r ↦ let s = h.sound l r in (s.0, s.1, s.2, elim s.3 [ inl f ↦ inl f | inr (lt, q) ↦ inr (omega arith, q) ])
+    | inl e ↦ inr (i, subst (λ (x : Lit). Stands entries i x) e at, omega arith, was)
+    | inr r ↦ elim (h.sound l r) [ inl b ↦ inl b | inr s ↦ inr (s.0, s.1, omega (arith, s.2), s.3) ]
   ];
   complete = λ p l s m r. elim r [
     | inl f ↦ cons_in lit l truths (h.complete p l s m (inl f))
@@ -99,15 +114,13 @@ reached_push entries marked resolved i truths lit was here at h = record {
 }
 
 -- the reason of a resolved place is unit
-pub unit_at : (clauses : List (List Lit)) (entries : List Entry) (marked resolved : List Bool) (i : ℕ) (truths : List Lit) → IsApart entries → IsReached entries marked resolved i truths → slice_get resolved i ≡ Some true → (r : IsResolved clauses entries marked i) → ((p : ℕ) → p < length entries → (slice_get resolved p ≡ Some true) ⊎ (slice_get resolved p ≡ Some false)) → IsUnit truths r.clause r.lit
-unit_at clauses entries marked resolved i truths apart h was r tests =
+pub unit_at : {clauses : List (List Lit)} {entries : List Entry} {marked resolved : List Bool} {at : ℕ} {before : List Lit} → (a : IsAnalyzed clauses entries marked resolved at before) → (i : ℕ) (truths : List Lit) → IsReached entries marked resolved before i truths → slice_get resolved i ≡ Some true → (r : IsResolved clauses entries marked i) → ((p : ℕ) → p < length entries → (slice_get resolved p ≡ Some true) ⊎ (slice_get resolved p ≡ Some false)) → IsUnit truths r.clause r.lit
+unit_at {entries = entries} a i truths h was r tests =
     let here : Stands entries i r.lit = (Some r.reason, r.entry) in
     let free : (l : Lit) → l.boolean ≡ r.lit.boolean → Contains truths l → ⊥ = λ l e c.
-    let s = h.sound l c in
-    let same : s.0 ≡ i = apart s.0 i l r.lit s.1 here e in
-    elim s.3 [
-      | inl f ↦ let f2 : slice_get resolved i ≡ Some false = subst (λ (q : ℕ). slice_get resolved q ≡ Some false) same f in absurd (cc)
-      | inr (lt, q) ↦ absurd (omega arith)
+    elim (h.sound l c) as (λ _. ⊥) [
+      | inl b ↦ a.fresh l b i r.lit here was e
+      | inr s ↦ let same : s.0 ≡ i = a.apart s.0 i l r.lit s.1 here e in let lt = s.2 in omega (arith, lt, same)
     ] in
     record {
       within = r.within;
@@ -134,27 +147,27 @@ tests_at (false ∷ tests) zero h = inr refl
 tests_at (x ∷ tests) (suc p) h = tests_at tests p (omega arith)
 
 -- what the hints so far make true
-pub record IsPartial (clauses : List (List Lit)) (entries : List Entry) (marked resolved : List Bool) (clause : List Lit) (i : ℕ) (hints : List ℕ) : Type 0 where
+pub record IsPartial (clauses : List (List Lit)) (entries : List Entry) (marked resolved : List Bool) (before : List Lit) (i : ℕ) (hints : List ℕ) : Type 0 where
   pub truths : List Lit
-  pub units : Propagates clauses hints (map opposite clause) truths
-  pub reached : IsReached entries marked resolved i truths
+  pub units : Propagates clauses hints before truths
+  pub reached : IsReached entries marked resolved before i truths
 
-pub partial_start : {clauses : List (List Lit)} {entries : List Entry} {marked resolved : List Bool} {at : ℕ} {clause : List Lit} → IsAnalyzed clauses entries marked resolved at clause → IsPartial clauses entries marked resolved clause 0 []
-partial_start {entries = entries} {marked = marked} {resolved = resolved} {clause = clause} a = record { truths = map opposite clause; units = refl; reached = reached_start entries marked resolved clause a.kept }
+pub partial_start : {clauses : List (List Lit)} {entries : List Entry} {marked resolved : List Bool} {at : ℕ} {before : List Lit} → IsAnalyzed clauses entries marked resolved at before → IsPartial clauses entries marked resolved before 0 []
+partial_start {before = before} a = record { truths = before; units = refl; reached = reached_start a }
 
-pub partial_skip : {clauses : List (List Lit)} {entries : List Entry} {marked resolved : List Bool} {clause : List Lit} {i : ℕ} {hints : List ℕ} → slice_get resolved i ≡ Some false → IsPartial clauses entries marked resolved clause i hints → IsPartial clauses entries marked resolved clause (i + 1) hints
-partial_skip unset h = record { truths = h.truths; units = h.units; reached = reached_skip _ _ _ _ _ unset h.reached }
+pub partial_skip : {clauses : List (List Lit)} {entries : List Entry} {marked resolved : List Bool} {before : List Lit} {i : ℕ} {hints : List ℕ} → slice_get resolved i ≡ Some false → IsPartial clauses entries marked resolved before i hints → IsPartial clauses entries marked resolved before (i + 1) hints
+partial_skip unset h = record { truths = h.truths; units = h.units; reached = reached_skip _ _ _ _ _ _ unset h.reached }
 
-pub partial_push : {clauses : List (List Lit)} {entries : List Entry} {marked resolved : List Bool} {at : ℕ} {clause : List Lit} {i : ℕ} {hints : List ℕ} → IsAnalyzed clauses entries marked resolved at clause → slice_get resolved i ≡ Some true → IsPartial clauses entries marked resolved clause i hints → (reason : ℕ) (lit : Lit) → slice_get entries i ≡ Some (record { lit = lit; reason = Some reason }) → IsPartial clauses entries marked resolved clause (i + 1) (hints ++ reason ∷ [])
-partial_push {clauses = clauses} {entries = entries} {marked = marked} {resolved = resolved} {clause = clause} {i = i} {hints = hints} a was h reason lit e =
+pub partial_push : {clauses : List (List Lit)} {entries : List Entry} {marked resolved : List Bool} {at : ℕ} {before : List Lit} {i : ℕ} {hints : List ℕ} → IsAnalyzed clauses entries marked resolved at before → slice_get resolved i ≡ Some true → IsPartial clauses entries marked resolved before i hints → (reason : ℕ) (lit : Lit) → slice_get entries i ≡ Some (record { lit = lit; reason = Some reason }) → IsPartial clauses entries marked resolved before (i + 1) (hints ++ reason ∷ [])
+partial_push {clauses = clauses} {entries = entries} {marked = marked} {resolved = resolved} {before = before} {i = i} {hints = hints} a was h reason lit e =
     let r = a.closed i was in
     let same : Some r.reason ≡ Some reason = ap (λ (x : Entry). x.reason) (same_Some _ _ (sym r.entry ∙ e)) in
-    let unit = unit_at clauses entries marked resolved i h.truths a.apart h.reached was r (λ p lt. tests_at resolved p (omega (arith, a.lengths))) in
-    let pushed = propagates_push clauses hints (map opposite clause) h.truths r.reason r.clause r.lit h.units r.at_reason unit in
+    let unit = unit_at a i h.truths h.reached was r (λ p lt. tests_at resolved p (omega (arith, a.lengths))) in
+    let pushed = propagates_push clauses hints before h.truths r.reason r.clause r.lit h.units r.at_reason unit in
     record {
       truths = r.lit ∷ h.truths;
-      units = subst (λ (n : ℕ). Propagates clauses (hints ++ n ∷ []) (map opposite clause) (r.lit ∷ h.truths)) (same_Some _ _ same) pushed;
-      reached = reached_push entries marked resolved i h.truths r.lit was r.itself (Some r.reason, r.entry) h.reached;
+      units = subst (λ (n : ℕ). Propagates clauses (hints ++ n ∷ []) before (r.lit ∷ h.truths)) (same_Some _ _ same) pushed;
+      reached = reached_push entries marked resolved before i h.truths r.lit was (Some r.reason, r.entry) h.reached;
     }
 
 -- hints that propagate, and a last one that is then false
@@ -163,16 +176,57 @@ follows clauses [] last before truths c p at f = (c, at, subst (λ (x : List Lit
 follows clauses (h ∷ []) last before truths c p at f = (p.0, p.1, p.2, p.3, follows clauses [] last (p.2 ∷ before) truths c p.4 at f)
 follows clauses (h ∷ i ∷ front) last before truths c p at f = (p.0, p.1, p.2, p.3, follows clauses (i ∷ front) last (p.2 ∷ before) truths c p.4 at f)
 
-pub learned : {clauses : List (List Lit)} {entries : List Entry} {marked resolved : List Bool} {at : ℕ} {clause : List Lit} {hints : List ℕ} → IsAnalyzed clauses entries marked resolved at clause → IsPartial clauses entries marked resolved clause (length entries) hints → Follows clauses (map opposite clause) (hints ++ at ∷ [])
-learned {clauses = clauses} {at = at} {clause = clause} {hints = hints} a h =
-    follows clauses hints at (map opposite clause) h.truths a.conflict h.units a.at_conflict
-    (λ m c. let b = a.all_marked m c in h.reached.complete b.0 (opposite m) b.2 b.3 (inr b.1))
+pub learned : {clauses : List (List Lit)} {entries : List Entry} {marked resolved : List Bool} {at : ℕ} {before : List Lit} {hints : List ℕ} → IsAnalyzed clauses entries marked resolved at before → IsPartial clauses entries marked resolved before (length entries) hints → Follows clauses before (hints ++ at ∷ [])
+learned {clauses = clauses} {at = at} {before = before} {hints = hints} a h =
+    follows clauses hints at before h.truths a.conflict h.units a.at_conflict
+    (λ m c. elim (a.all_false m c) [ inl b ↦ h.reached.given (opposite m) b | inr b ↦ h.reached.complete b.0 (opposite m) b.2 b.3 (inr b.1) ])
 
-pub partial_next : {clauses : List (List Lit)} {entries : List Entry} {marked resolved : List Bool} {at : ℕ} {clause : List Lit} {i : ℕ} {hints : List ℕ} → IsAnalyzed clauses entries marked resolved at clause → slice_get resolved i ≡ Some true → IsPartial clauses entries marked resolved clause i hints → (reason : ℕ) (e : Entry) → slice_get entries i ≡ Some e → e.reason ≡ Some reason → IsPartial clauses entries marked resolved clause (i + 1) (hints ++ reason ∷ [])
+pub partial_next : {clauses : List (List Lit)} {entries : List Entry} {marked resolved : List Bool} {at : ℕ} {before : List Lit} {i : ℕ} {hints : List ℕ} → IsAnalyzed clauses entries marked resolved at before → slice_get resolved i ≡ Some true → IsPartial clauses entries marked resolved before i hints → (reason : ℕ) (e : Entry) → slice_get entries i ≡ Some e → e.reason ≡ Some reason → IsPartial clauses entries marked resolved before (i + 1) (hints ++ reason ∷ [])
 partial_next {entries = entries} {i = i} a was h reason e at has = partial_push a was h reason e.lit (at ∙ ap (λ (r : Option ℕ). let x : Entry = record { lit = e.lit; reason = r } in Some x) has)
 
-pub no_decision : {clauses : List (List Lit)} {entries : List Entry} {marked resolved : List Bool} {at : ℕ} {clause : List Lit} → IsAnalyzed clauses entries marked resolved at clause → (i : ℕ) → slice_get resolved i ≡ Some true → (e : Entry) → slice_get entries i ≡ Some e → e.reason ≡ None → ⊥
+pub no_decision : {clauses : List (List Lit)} {entries : List Entry} {marked resolved : List Bool} {at : ℕ} {before : List Lit} → IsAnalyzed clauses entries marked resolved at before → (i : ℕ) → slice_get resolved i ≡ Some true → (e : Entry) → slice_get entries i ≡ Some e → e.reason ≡ None → ⊥
 no_decision {entries = entries} a i was e at none =
     let r = a.closed i was in
     let same : Some r.reason ≡ e.reason = ap (λ (x : Entry). x.reason) (same_Some _ _ (sym r.entry ∙ at)) in
     cc
+
+-- what is marked and not resolved, turned, makes the conflict false
+pub analyzed : (clauses : List (List Lit)) (entries : List Entry) (marked resolved : List Bool) (at : ℕ) (clause conflict : List Lit) → slice_get clauses at ≡ Some conflict → IsAllMarked entries marked conflict → IsClosed clauses entries marked resolved → IsApart entries → IsKept entries marked resolved clause → length resolved ≡ length entries → IsAnalyzed clauses entries marked resolved at (map opposite clause)
+analyzed clauses entries marked resolved at clause conflict e all closed apart k lengths = record {
+  conflict = conflict;
+  at_conflict = e;
+  all_false = λ m c. inr (all m c);
+  closed = closed;
+  apart = apart;
+  given = λ p l s m f. subst (λ (x : Lit). Contains (map opposite clause) x) (opposite-opposite l) (in_opposites clause (opposite l) (k.complete p l s m f));
+  fresh = λ l b p m s r same.
+      let q = k.sound (opposite l) (from_opposites clause l b) in
+      let is : q.0 ≡ p = apart q.0 p (opposite (opposite l)) m q.1 s same in
+      let f : slice_get resolved p ≡ Some false = subst (λ (n : ℕ). slice_get resolved n ≡ Some false) is q.3 in
+      let t : Some true ≡ Some false = sym r ∙ f in
+      absurd (cc);
+  lengths = lengths;
+}
+
+-- what a chain stands on makes its reason false together with the opposite of its literal
+pub chained : (clauses : List (List Lit)) (entries : List Entry) (marked resolved : List Bool) (place : ℕ) (lit : Lit) (reason : ℕ) (c : List Lit) → slice_get clauses reason ≡ Some c → IsApart entries → Stands entries place lit → IsChain clauses entries place lit reason 0 marked resolved → IsAnalyzed clauses entries marked resolved reason (opposite lit ∷ [])
+chained clauses entries marked resolved place lit reason c e apart at h = record {
+  conflict = c;
+  at_conflict = e;
+  all_false = λ m in'. elim (lit_or m lit) [
+    | inl same ↦ inl (subst (λ (x : Lit). Contains (opposite lit ∷ []) (opposite x)) (sym same) (cons_same (opposite lit) []))
+    | inr ne ↦ inr (h.others c e m in' ne)
+  ];
+  closed = h.closed;
+  apart = apart;
+  given = λ p l s m f. let t : Some true ≡ Some false = sym (h.done p (omega arith) m) ∙ f in absurd (cc);
+  fresh = λ l b p m s r same. elim (in_cons (opposite lit) l [] b) as (λ _. ⊥) [
+    | inl is ↦
+        let marks = (h.closed p r).itself in
+        let lt = h.low p marks in
+        let here : p ≡ place = apart p place m lit s at (sym same ∙ sym (ap (λ (x : Lit). x.boolean) is)) in
+        omega (arith, lt, here)
+    | inr none ↦ omega (arith, none.1)
+  ];
+  lengths = h.resolves;
+}

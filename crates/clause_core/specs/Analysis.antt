@@ -1,9 +1,11 @@
 -- What conflict analysis marks.
-use Rattle.std.specs.Prelude.{◌≡◌, ◌≢◌, ℕ, ◌<◌, Bool, true, false, List, length, Some, slice_get}
+use Rattle.std.specs.Prelude.{◌≡◌, ◌≢◌, ◌⊎◌, ℕ, ◌<◌, ◌≤◌, [], ◌∷◌, Bool, true, false, List, length, Some, slice_get}
 use Rattle.std.specs.List.{Contains}
 use Rattle.formula.specs.declared.atom.Lit.{Lit}
 use Rattle.formula.specs.Reading.{opposite}
 use Rattle.clause_core.specs.declared.trail.Entry.{Entry}
+use Rattle.theory_law.specs.Licence.{IsNew}
+use Rattle.clause_core.specs.declared.analyze.Fixed.{Fixed}
 use Rattle.clause_core.specs.Standing.{Stands, Before, IsApart}
 
 -- the literal stands before the place, and is marked
@@ -33,13 +35,15 @@ pub record IsKept (entries : List Entry) (marked resolved : List Bool) (clause :
   pub sound : (l : Lit) → Contains clause l → (p : ℕ) × Stands entries p (opposite l) × (slice_get marked p ≡ Some true) × (slice_get resolved p ≡ Some false)
   pub complete : (p : ℕ) (l : Lit) → Stands entries p l → slice_get marked p ≡ Some true → slice_get resolved p ≡ Some false → Contains clause (opposite l)
 
-pub record IsAnalyzed (clauses : List (List Lit)) (entries : List Entry) (marked resolved : List Bool) (at : ℕ) (clause : List Lit) : Type 0 where
+-- with these literals true before, the reasons of the resolved places make the clause of this number false
+pub record IsAnalyzed (clauses : List (List Lit)) (entries : List Entry) (marked resolved : List Bool) (at : ℕ) (before : List Lit) : Type 0 where
   pub conflict : List Lit
   pub at_conflict : slice_get clauses at ≡ Some conflict
-  pub all_marked : IsAllMarked entries marked conflict
+  pub all_false : (m : Lit) → Contains conflict m → Contains before (opposite m) ⊎ IsMarked entries marked (length entries) (opposite m)
   pub closed : IsClosed clauses entries marked resolved
   pub apart : IsApart entries
-  pub kept : IsKept entries marked resolved clause
+  pub given : (p : ℕ) (l : Lit) → Stands entries p l → slice_get marked p ≡ Some true → slice_get resolved p ≡ Some false → Contains before l
+  pub fresh : (l : Lit) → Contains before l → (p : ℕ) (m : Lit) → Stands entries p m → slice_get resolved p ≡ Some true → l.boolean ≡ m.boolean → ⊥
   pub lengths : length resolved ≡ length entries
 
 -- a literal that is false by a marked one that isn't resolved
@@ -66,5 +70,22 @@ Grows old new = (p : ℕ) → slice_get old p ≡ Some true → slice_get new p 
 pub record IsMarkedUp (clauses : List (List Lit)) (entries : List Entry) (conflict : ℕ) (marked resolved : List Bool) : Type 0 where
   pub closed : IsClosed clauses entries marked resolved
   pub all_marked : (c : List Lit) → slice_get clauses conflict ≡ Some c → IsAllMarked entries marked c
+  pub marks : length marked ≡ length entries
+  pub resolves : length resolved ≡ length entries
+
+-- ---- a literal at the start of the trail
+
+-- it stands before each decision, forced by a clause, and no clause has it alone
+pub record IsFixed (clauses : List (List Lit)) (entries : List Entry) (base : ℕ) (f : Fixed) : Type 0 where
+  pub low : f.place < base
+  pub entry : slice_get entries f.place ≡ Some (record { lit = f.lit; reason = Some f.reason })
+  pub unstated : IsNew clauses (f.lit ∷ [])
+
+-- what the reason of this place stands on is marked, and resolved from `i` on
+pub record IsChain (clauses : List (List Lit)) (entries : List Entry) (place : ℕ) (lit : Lit) (reason i : ℕ) (marked resolved : List Bool) : Type 0 where
+  pub closed : IsClosed clauses entries marked resolved
+  pub others : (c : List Lit) → slice_get clauses reason ≡ Some c → (m : Lit) → Contains c m → m ≢ lit → IsMarked entries marked (length entries) (opposite m)
+  pub low : (p : ℕ) → slice_get marked p ≡ Some true → p < place
+  pub done : (p : ℕ) → i ≤ p → slice_get marked p ≡ Some true → slice_get resolved p ≡ Some true
   pub marks : length marked ≡ length entries
   pub resolves : length resolved ≡ length entries

@@ -1,6 +1,6 @@
 -- What makes a learned clause contain no earlier one.
 use Rattle.std.specs.Prelude.{◌≡◌, ℕ, ◌<◌, ◌≤◌, Bool, true, false, List, Some, slice_get}
-pub use Rattle.theory_law.specs.Licence.{IsNew}
+pub use Rattle.theory_law.specs.Licence.{IsNew, IsPart}
 
 -- marked, and not resolved
 pub record IsLeft (marks resolves : List Bool) (p : ℕ) : Type 0 where

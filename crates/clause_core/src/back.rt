@@ -1,15 +1,16 @@
 //! Going back over the trail. Begin with `add`, which adds a clause and goes back to the level where it forces a literal;
 //! `restart` goes back to the start. The theory takes back what it was told since.
-ghost use Rattle.std.specs.Prelude.{◌≡◌, ◌≢◌, ◌<◌, ◌≤◌, ◌+◌, ◌++◌, ◌∷◌, [], ℕ, List, Bool, true, false, length, take, MatchOption, OnOk, slice_get, Some, None};
+ghost use Rattle.std.specs.Prelude.{◌≡◌, ◌≢◌, ◌<◌, ◌≤◌, ◌+◌, ◌++◌, ◌∷◌, [], ℕ, List, Bool, true, false, length, take, IfSome, MatchOption, OnOk, slice_get, Some, None};
 ghost use Rattle.std.specs.List.{All};
 ghost use Rattle.formula.specs.declared.atom.Lit.{Lit};
 ghost use Rattle.formula.specs.Contents.{is_clause, with_clause};
 ghost use Rattle.theory_law.specs.Seen.{with_asserted};
 ghost use Rattle.clause_core.specs.Cored.{HasTwo};
+ghost use Rattle.clause_core.specs.Levels.{IsSettled};
 ghost use Rattle.clause_core.specs.Solving.{IsSane, IsTold, IsWithin, IsPushed, IsLastDecision, HasDecisionAt, lits_of};
 
 use crate::Core;
-use crate::analyze::lits_at;
+use crate::analyze::{differs, first_decision, lits_at};
 use crate::scan::{Scanned, scan};
 use crate::trail::{Entry, Trail};
 use formula::{Clause, Formula, Lit};
@@ -111,12 +112,41 @@ fn assert_clause(trail: &mut Trail, clauses: &[Clause], number: usize) -> Result
     }
 }
 
-/// Adds a clause, goes back to the level that it asks for, and makes true what it forces there.
+/// The place of the clause's one literal, where it is true before each decision.
+fn settled(trail: &Trail, clause: &[Lit]) -> Option<usize>
+    ensures { IfSome result (IsSettled trail.now.entries clause.now) }
+{
+    if clause.len() != 1 {
+        return None;
+    }
+    let lit = clause[0];
+    let entries = trail.entries();
+    let Some(place) = trail.place(lit.boolean) else {
+        return None;
+    };
+    if differs(entries[place].lit, lit) {
+        return None;
+    }
+    if place < first_decision(entries) {
+        return Some(place);
+    }
+    None
+}
+
+/// Adds a clause, goes back to the level that it asks for, and makes true what it forces there. A clause of one literal that
+/// is true at the start of the trail becomes its reason.
 pub(crate) fn add<T: Theory>(core: &mut Core<T>, clause: Clause) -> Result<(), AllocError>
     requires { is_clause (length core.old.formula.atoms) clause ≡ true }
     ensures formula { OnOk result (core.new.formula ≡ with_clause clause core.old.formula) }
     ensures pivots { (T.seen core.new.theory).pivots ≡ (T.seen core.old.theory).pivots }
 {
+    if let Some(place) = settled(&core.trail, clause.lits()) {
+        let number = core.formula.clauses().len();
+        core.formula.add_clause(clause)?;
+        core.trail.set_reason(place, number);
+        return Ok(());
+    }
+    core.agenda.keep(core.trail.entries());
     let keep = level_of(&core.trail, clause.lits());
     core.told = back_to(
         &mut core.trail,
@@ -135,6 +165,7 @@ pub(crate) fn restart<T: Theory>(core: &mut Core<T>)
     ensures formula { core.new.formula ≡ core.old.formula }
     ensures pivots { (T.seen core.new.theory).pivots ≡ (T.seen core.old.theory).pivots }
 {
+    core.agenda.keep(core.trail.entries());
     core.told = back_to(
         &mut core.trail,
         &mut core.theory,

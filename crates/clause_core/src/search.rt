@@ -1,6 +1,6 @@
 //! The search between two steps of the log. Begin with `round`: it propagates, asks the theory and decides. `search`
 //! goes on until there is something to log or every Boolean is assigned. `choose` says which Boolean is decided, and with which truth.
-ghost use Rattle.std.specs.Prelude.{◌≡◌, ◌≢◌, ◌<◌, ◌≤◌, ◌+◌, ◌++◌, ◌∷◌, [], ℕ, List, Bool, true, false, length, OnOk, IfOk, IfErr, IfSome, IsSome, MatchOption, slice_get, Some, None};
+ghost use Rattle.std.specs.Prelude.{◌≡◌, ◌≢◌, ◌<◌, ◌≤◌, ◌+◌, ◌++◌, ◌∷◌, ◌⊎◌, [], ℕ, List, Bool, true, false, length, OnOk, IfOk, IfErr, IfSome, IsSome, MatchOption, slice_get, Some, None};
 ghost use Rattle.std.specs.List.{All, Contains};
 ghost use Rattle.rational.specs.Fraction.{Fraction};
 ghost use Rattle.formula.specs.declared.atom.Lit.{Lit};
@@ -14,6 +14,7 @@ ghost use Rattle.clause_core.specs.Stepping.{StepHolds, IsOfCut, IsStuck};
 ghost use Rattle.clause_core.specs.Searching.{EventHolds, IsDone, IsLonger};
 
 use crate::Core;
+use crate::agenda::Agenda;
 use crate::analyze::learn;
 use crate::laws::propagate;
 use crate::tell::ask;
@@ -35,26 +36,41 @@ pub(crate) enum Event<W> {
     Full,
 }
 
-/// A Boolean that isn't assigned.
-fn free_in(trail: &Trail) -> Option<u64>
-    ensures { MatchOption result ((b : ℕ) → b < trail.now.booleans → (p : ℕ) × (l : Lit) × Stands trail.now.entries p l × (l.boolean ≡ b)) (λ b. (b < trail.now.booleans) × IsFree trail.now.entries b) }
+/// The more active of a Boolean and the best so far, and that one where they are equal.
+fn better(agenda: &Agenda, best: Option<u64>, boolean: u64) -> u64
+    ensures { (result ≡ boolean) ⊎ (best ≡ Some result) }
 {
-    for b in 0..trail.booleans() {
-        let Some(_place) = trail.place(b as u64) else {
-            return Some(b as u64);
-        };
+    let Some(other) = best else {
+        return boolean;
+    };
+    if agenda.activity(other) < agenda.activity(boolean) {
+        return boolean;
     }
-    None
+    other
 }
 
-/// A Boolean that isn't assigned.
+/// The most active Boolean that isn't assigned.
+fn free_in(trail: &Trail, agenda: &Agenda) -> Option<u64>
+    ensures { MatchOption result ((b : ℕ) → b < trail.now.booleans → (p : ℕ) × (l : Lit) × Stands trail.now.entries p l × (l.boolean ≡ b)) (λ b. (b < trail.now.booleans) × IsFree trail.now.entries b) }
+{
+    let mut best = None;
+    for b in 0..trail.booleans() {
+        match trail.place(b as u64) {
+            Some(_place) => {}
+            None => best = Some(better(agenda, best, b as u64)),
+        }
+    }
+    best
+}
+
+/// The most active Boolean that isn't assigned.
 fn free_boolean<T: Theory>(core: &Core<T>) -> Option<u64>
     ensures { MatchOption result (IsFull (length core.now.formula.atoms) core.now.trail) (λ b. (b < length core.now.formula.atoms) × ((l : Lit) → Contains core.now.trail l → l.boolean ≡ b → ⊥)) }
 {
-    free_in(&core.trail)
+    free_in(&core.trail, &core.agenda)
 }
 
-/// The literal to decide, of a Boolean that isn't assigned.
+/// The literal to decide, of a Boolean that isn't assigned: the most active one, with the truth that it had last.
 fn choose<T: Theory>(core: &Core<T>) -> Option<Lit>
     ensures { MatchOption result (IsFull (length core.now.formula.atoms) core.now.trail) (λ d. (d.boolean < length core.now.formula.atoms) × ((l : Lit) → Contains core.now.trail l → l.boolean ≡ d.boolean → ⊥)) }
 {
@@ -63,7 +79,7 @@ fn choose<T: Theory>(core: &Core<T>) -> Option<Lit>
     };
     Some(Lit {
         boolean,
-        pos: false,
+        pos: core.agenda.phase(boolean),
     })
 }
 

@@ -3,7 +3,7 @@ ghost use Rattle.std.specs.Prelude.{◌≡◌, ◌≢◌, ◌<◌, ◌≤◌, �
 ghost use Rattle.std.specs.List.{All, Contains};
 ghost use Rattle.rational.specs.Fraction.{Fraction};
 ghost use Rattle.formula.specs.declared.atom.Lit.{Lit};
-ghost use Rattle.formula.specs.Contents.{with_boolean};
+ghost use Rattle.formula.specs.Contents.{is_clause, with_boolean, with_clause};
 ghost use Rattle.theory_law.specs.declared.log.LogStep.{LogStep};
 ghost use Rattle.theory_law.specs.Splits.{CanSplit, at_most};
 ghost use Rattle.theory_law.specs.Log.{after, HasEmpty, IsSound};
@@ -103,17 +103,36 @@ fn split<T: Theory>(core: Core<T>, var: u64, k: Frac) -> Result<Core<T>, AllocEr
         mut theory,
         mut trail,
         told,
+        mut agenda,
     } = core;
     theory.learn_atom(var, k)?;
     formula.add_split(var, k)?;
     trail.add_boolean()?;
+    agenda.add(k.num() == 0)?;
     Ok(Core {
         alloc,
         formula,
         theory,
         trail,
         told,
+        agenda,
     })
+}
+
+/// Adds a clause of the log, raises the activity of what stands in the clauses that it comes from, and restarts in time.
+fn teach<T: Theory>(core: &mut Core<T>, clause: Clause, hints: &[u64]) -> Result<(), AllocError>
+    requires { is_clause (length core.old.formula.atoms) clause ≡ true }
+    ensures formula { OnOk result (core.new.formula ≡ with_clause clause core.old.formula) }
+    ensures pivots { (T.seen core.new.theory).pivots ≡ (T.seen core.old.theory).pivots }
+{
+    core.agenda.raise(clause.lits());
+    core.agenda.raise_all(core.formula.clauses(), hints);
+    let due = core.agenda.is_due();
+    add(core, clause)?;
+    if due {
+        restart(core);
+    }
+    Ok(())
 }
 
 /// Adds the clause of a step, or makes its split and goes back to the start.
@@ -125,11 +144,8 @@ fn take<T: Theory>(core: Core<T>, step: LogStep<T::Why>) -> Result<Core<T>, Allo
 {
     let mut core = core;
     match step {
-        LogStep::Lemma { clause, why: _why } => add(&mut core, clause)?,
-        LogStep::Learn {
-            clause,
-            hints: _hints,
-        } => add(&mut core, clause)?,
+        LogStep::Lemma { clause, why: _why } => teach(&mut core, clause, &[])?,
+        LogStep::Learn { clause, hints } => teach(&mut core, clause, hints.as_slice())?,
         LogStep::Split {
             boolean: _boolean,
             var,

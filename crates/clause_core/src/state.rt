@@ -3,6 +3,7 @@ ghost use Rattle.std.specs.Prelude.{◌≡◌, [], length, IfOk};
 ghost use Rattle.formula.specs.Contents.{IsFormula};
 ghost use Rattle.theory_law.specs.Seen.{at_start};
 
+use crate::agenda::{Agenda, agenda_of};
 use crate::trail::Trail;
 use formula::Formula;
 use std::alloc::{AllocError, Global};
@@ -18,6 +19,7 @@ pub struct Core<T: Theory> {
     pub(crate) trail: Trail,
     /// How many entries of the trail the theory was told.
     pub(crate) told: usize,
+    pub(crate) agenda: Agenda,
 }
 
 impl<T: Theory> Model for Core<T> {
@@ -43,12 +45,14 @@ impl<T: Theory> Core<T> {
         ensures { IfOk result (λ c. c ≡ record { formula = formula; theory = theory; trail = [] }) }
     {
         let trail = trail_of(alloc, &formula)?;
+        let agenda = agenda_of(alloc, &formula)?;
         Ok(Core {
             alloc,
             formula,
             theory,
             trail,
             told: 0,
+            agenda,
         })
     }
 }

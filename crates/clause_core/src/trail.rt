@@ -1,5 +1,5 @@
 //! The assigned literals in order.
-ghost use Rattle.std.specs.Prelude.{◌≡◌, ◌<◌, ◌≤◌, ◌+◌, ◌++◌, ◌∷◌, [], ℕ, length, IfOk, IfSome, OnErr, OnOk, MatchOption, slice_get, Some};
+ghost use Rattle.std.specs.Prelude.{◌≡◌, ◌<◌, ◌≤◌, ◌+◌, ◌++◌, ◌∷◌, [], ℕ, length, IfOk, IfSome, OnErr, OnOk, MatchOption, slice_get, slice_set, Some};
 ghost use Rattle.std.specs.Option.{option_flatten};
 
 use formula::Lit;
@@ -105,6 +105,20 @@ impl Trail {
         let _ = &self.entries;
         self.place.push(None)?;
         Ok(())
+    }
+
+    /// The literal of this place is forced by the clause of this number.
+    pub fn set_reason(&mut self, place: usize, reason: usize)
+        requires { place < length self.old.entries }
+        ensures entries { (l : Lit) → Stands self.old.entries place l → self.new.entries ≡ slice_set self.old.entries place (record { lit = l; reason = Some reason }) }
+        ensures booleans { self.new.booleans ≡ self.old.booleans }
+    {
+        let _ = &self.place;
+        let lit = self.entries[place].lit;
+        self.entries[place] = Entry {
+            lit,
+            reason: Some(reason),
+        };
     }
 
     pub fn pop(&mut self) -> Option<Entry>

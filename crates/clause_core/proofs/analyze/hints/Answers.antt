@@ -6,15 +6,15 @@ use Rattle.clause_core.proofs.analyze.hints.Goals.{then-resolved-i+in-Some+in_ok
 use Rattle.clause_core.proofs.analyze.hints.Goals as goal
 
 pub loop-i-init : goal.loop-i-init
-loop-i-init c = λ clauses marked clause a. rw c.new-hints.ensures.items (partial_start a)
+loop-i-init c = λ clauses marked before a. rw c.new-hints.ensures.items (partial_start a)
 
 first : Entry
 first = record { lit = record { boolean = 0; pos = false }; reason = None }
 
 pub loop-i-preserved : goal.loop-i-preserved
 unfolding first
-loop-i-preserved c = λ clauses marked clause a.
-    let h = c.loop-i.invariant clauses marked clause a in
+loop-i-preserved c = λ clauses marked before a.
+    let h = c.loop-i.invariant clauses marked before a in
     let lt : c.loop-i.i < length c.args.entries.now = omega arith in
     let lt2 : c.loop-i.i < length c.args.resolved.now = omega (arith, c.requires) in
     let at : slice_get c.args.entries.now c.loop-i.i ≡ Some (get_or c.args.entries.now c.loop-i.i first) = get-from c.args.entries.now c.loop-i.i first _ lt refl in
@@ -26,8 +26,8 @@ loop-i-preserved c = λ clauses marked clause a.
     ]
 
 pub returns : goal.returns
-returns c = λ clauses marked clause a.
-    let h = c.loop-i.invariant clauses marked clause a in
+returns c = λ clauses marked before a.
+    let h = c.loop-i.invariant clauses marked before a in
     let end : c.loop-i.i ≡ length c.args.entries.now = omega arith in
-    let all = subst (λ (n : ℕ). IsPartial clauses c.args.entries.now marked c.args.resolved.now clause n c.loop-i.hints.items) end h in
+    let all = subst (λ (n : ℕ). IsPartial clauses c.args.entries.now marked c.args.resolved.now before n c.loop-i.hints.items) end h in
     rw c.in_ok-push-2.ensures.items (learned a all)

@@ -5,4 +5,4 @@ use Rattle.clause_core.proofs.Rup.{IsPartial}
 use Rattle.clause_core.proofs.analyze.hints.Given as goal
 
 abbrev pub invariant-loop-i : goal.invariant-loop-i
-invariant-loop-i l = (clauses : List (List Lit)) (marked : List Bool) (clause : List Lit) → IsAnalyzed clauses l.entries marked l.resolved l.conflict clause → IsPartial clauses l.entries marked l.resolved clause l.i l.hints.items
+invariant-loop-i l = (clauses : List (List Lit)) (marked : List Bool) (before : List Lit) → IsAnalyzed clauses l.entries marked l.resolved l.conflict before → IsPartial clauses l.entries marked l.resolved before l.i l.hints.items

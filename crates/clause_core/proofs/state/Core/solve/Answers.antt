@@ -1,8 +1,10 @@
-use Rattle.std.proofs.Common.{◌∙◌, Ok, Err, subst, arith, refl}
+use Rattle.std.proofs.Common.{◌∙◌, ℕ, Ok, Err, subst, arith, refl}
 use Rattle.theory_law.specs.Log.{HasEmpty, after}
+use Rattle.theory_law.specs.Verdicts.{FailHolds}
+use Rattle.clause_core.specs.Stepping.{IsStuck}
 use Rattle.clause_core.specs.declared.solving.Outcome.TheVariants.{Empty}
-use Rattle.clause_core.specs.declared.solving.CoreFail.TheVariants.{Memory}
-use Rattle.clause_core.proofs.Logs.{handed_none, handed_push, solved, same_handed, none_empty, some_empty}
+use Rattle.clause_core.specs.declared.solving.CoreFail.TheVariants.{Memory, Sink}
+use Rattle.clause_core.proofs.Logs.{handed_none, handed_push, solved, same_handed, none_empty, some_empty, solved_fail, stopped, rose_since}
 use Rattle.clause_core.proofs.state.Core.solve.Goals as goal
 
 pub loop-i-init : goal.loop-i-init
@@ -42,3 +44,18 @@ returns-then-empty-clause-solved g c =
     let h = same_handed c.loop-i.invariant.handed c.in-Ok-Step.ensures.formula in
     let longer = handed_push h c.in-Ok-Step.step next.0 (g.S.LogSink.stands_for c.step.new.self) c.in-Ok.ensures.list c.in-Ok-take.core.formula c.in-Ok-take.ensures.formula in
     solved longer (g.S.LogSink.stands_for c.step.new.self) g.T.Theory.stuck (g.T.Theory.seen c.args.self.theory).pivots (g.S.LogSink.stopped_in c.step.new.self) (g.S.LogSink.faults c.args.sink.now) (g.S.LogSink.faults c.step.new.self) c.args.steps (Ok Empty) (omega arith) longer.handed (some_empty c.advance.new.core.formula c.in-Ok-take.core.formula c.in-Ok-Step.step c.in-Ok-take.ensures.formula (c.if-empty.ensures.0 refl))
+
+pub returns-in-Err-clause-solved : goal.returns-in-Err-clause-solved
+returns-in-Err-clause-solved g c =
+    let trouble = subst (λ (p : ℕ). FailHolds (IsStuck g.T.Theory.stuck c.loop-i.core.formula p) c.in-Err.fail) c.loop-i.invariant.pivots c.in-Err.ensures.trouble in
+    solved_fail c.loop-i.invariant.handed g.T.Theory.stuck (g.T.Theory.seen c.args.self.theory).pivots (g.S.LogSink.stopped_in c.loop-i.sink) (g.S.LogSink.faults c.args.sink.now) (g.S.LogSink.faults c.loop-i.sink) c.args.steps c.in-Err.fail c.of_theory.result c.of_theory.ensures (omega arith) trouble
+
+pub returns-in-Err-Failed-clause-solved : goal.returns-in-Err-Failed-clause-solved
+returns-in-Err-Failed-clause-solved g c =
+    let next = rw c.in-Ok-Step.field-0-is at c.in-Ok-Step.ensures.next in
+    let h = same_handed c.loop-i.invariant.handed c.in-Ok-Step.ensures.formula in
+    let list = rw c.in-Err-Failed.field-0-is at c.in-Err-Failed.ensures.list in
+    let failed = rw c.in-Err-Failed.field-0-is at c.in-Err-Failed.ensures.failed in
+    let rose = rose_since (g.S.LogSink.faults c.args.sink.now) (g.S.LogSink.faults c.loop-i.sink) (g.S.LogSink.faults c.step.new.self) c.loop-i.invariant.later (failed refl) in
+    solved h (g.S.LogSink.stands_for c.step.new.self) g.T.Theory.stuck (g.T.Theory.seen c.args.self.theory).pivots (g.S.LogSink.stopped_in c.step.new.self) (g.S.LogSink.faults c.args.sink.now) (g.S.LogSink.faults c.step.new.self) c.args.steps (Err Sink) (omega arith)
+    (stopped h (g.S.LogSink.stopped_in c.step.new.self) (g.S.LogSink.faults c.args.sink.now) (g.S.LogSink.faults c.step.new.self) c.in-Ok-Step.step next.0 list rose) (omega arith)
