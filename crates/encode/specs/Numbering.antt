@@ -86,6 +86,7 @@ same_name (is_done i) (behind j p) = false
 same_name (behind i p) (is_done j) = false
 same_name (behind i p) (behind j q) = nat_eq i j && nat_eq p q
 
+-- the constants of atoms are 0; they are compared too, so that equal keys are one
 abbrev pub same_key : Key → Key → Bool
 same_key (atom a) (atom b) = same_fraction a.lin.constant b.lin.constant && same_atom a b
 same_key (atom a) (truth n) = false
