@@ -105,31 +105,31 @@ module _ (changing : ℕ → Bool) where
   abbrev pub line_of : Expr → Linearity
   line_of e = linearity_of changing e
 
-  linear-num : (n : Fraction) → line_of (expr.Num n) ≡ linearity false true
+  pub linear-num : (n : Fraction) → line_of (expr.Num n) ≡ linearity false true
   unfolding linearity_of
   linear-num n = ap (fold-Expr Linearity (linearity_step changing)) (sym (expr.rolls-Num n)) ∙ fold-roll-Expr Linearity (linearity_step changing) (Expr-F.Num n)
 
-  linear-call : (func : ℕ) (terms : List Term) → line_of (expr.Call func terms) ≡ linearity (changing func) true
+  pub linear-call : (func : ℕ) (terms : List Term) → line_of (expr.Call func terms) ≡ linearity (changing func) true
   unfolding linearity_of
   linear-call func terms = ap (fold-Expr Linearity (linearity_step changing)) (sym (expr.rolls-Call func terms)) ∙ fold-roll-Expr Linearity (linearity_step changing) (Expr-F.Call func terms)
 
-  linear-add : (parts : List Expr) → line_of (expr.Add parts) ≡ linearity (any_reads (map line_of parts)) (all_linear (map line_of parts))
+  pub linear-add : (parts : List Expr) → line_of (expr.Add parts) ≡ linearity (any_reads (map line_of parts)) (all_linear (map line_of parts))
   unfolding linearity_of
   linear-add parts = ap (fold-Expr Linearity (linearity_step changing)) (sym (expr.rolls-Add parts)) ∙ fold-roll-Expr Linearity (linearity_step changing) (Expr-F.Add parts)
 
-  linear-mul : (parts : List Expr) → line_of (expr.Mul parts) ≡ linearity (any_reads (map line_of parts)) (one_reads (map line_of parts) && all_linear (map line_of parts))
+  pub linear-mul : (parts : List Expr) → line_of (expr.Mul parts) ≡ linearity (any_reads (map line_of parts)) (one_reads (map line_of parts) && all_linear (map line_of parts))
   unfolding linearity_of
   linear-mul parts = ap (fold-Expr Linearity (linearity_step changing)) (sym (expr.rolls-Mul parts)) ∙ fold-roll-Expr Linearity (linearity_step changing) (Expr-F.Mul parts)
 
-  linear-neg : (a : Expr) → line_of (expr.Neg a) ≡ linearity (line_of a).reads (line_of a).linear
+  pub linear-neg : (a : Expr) → line_of (expr.Neg a) ≡ linearity (line_of a).reads (line_of a).linear
   unfolding linearity_of
   linear-neg a = ap (fold-Expr Linearity (linearity_step changing)) (sym (expr.rolls-Neg a)) ∙ fold-roll-Expr Linearity (linearity_step changing) (Expr-F.Neg a)
 
-  linear-sub : (a b : Expr) → line_of (expr.Sub a b) ≡ linearity ((line_of a).reads || (line_of b).reads) ((line_of a).linear && (line_of b).linear)
+  pub linear-sub : (a b : Expr) → line_of (expr.Sub a b) ≡ linearity ((line_of a).reads || (line_of b).reads) ((line_of a).linear && (line_of b).linear)
   unfolding linearity_of
   linear-sub a b = ap (fold-Expr Linearity (linearity_step changing)) (sym (expr.rolls-Sub a b)) ∙ fold-roll-Expr Linearity (linearity_step changing) (Expr-F.Sub a b)
 
-  linear-div : (a b : Expr) → line_of (expr.Div a b) ≡ linearity ((line_of a).reads || (line_of b).reads) (not (line_of b).reads && ((line_of a).linear && (line_of b).linear))
+  pub linear-div : (a b : Expr) → line_of (expr.Div a b) ≡ linearity ((line_of a).reads || (line_of b).reads) (not (line_of b).reads && ((line_of a).linear && (line_of b).linear))
   unfolding linearity_of
   linear-div a b = ap (fold-Expr Linearity (linearity_step changing)) (sym (expr.rolls-Div a b)) ∙ fold-roll-Expr Linearity (linearity_step changing) (Expr-F.Div a b)
 

@@ -27,4 +27,8 @@ pub mod ReasonLaws
 pub mod Breaking
 pub mod Even
 pub mod Between
+pub mod Changing
+pub mod RollingOn
+pub mod Bases
+pub mod Jumps
 pub mod RolledSteps

@@ -23,7 +23,7 @@ use Rattle.pddl_task.specs.declared.parts.TaskParts.{TaskParts}
 use Rattle.plan_step.specs.State.{PlanState}
 use Rattle.plan_step.specs.Meaning.{objects_of, Change, put, change, adds_up, has_target, amount, change_of, puts, truth_after, changed_by, value_after, value_of, compares, signed, holds, all_hold, HasStep, Run, ended, stepped}
 use Rattle.plan_step.specs.Order.{related}
-use Rattle.plan_step.specs.Rolling.{is_even, keeps, amount_of, growth, IsRollable, rolled}
+use Rattle.plan_step.specs.Rolling.{is_even, keeps, literal_holds, amount_of, growth, IsRollable, rolled}
 use Rattle.plan_step.proofs.Even.{moved, OnLine, behaves, not_true}
 use Rattle.plan_step.proofs.Between.{compares-between}
 
@@ -144,7 +144,7 @@ whole-zero : (o : Option Fraction) (d : Fraction) → o ≡ moved 0 d o
 whole-zero None d = refl
 whole-zero (Some x) d = ap Some (solve fraction-ring (v 0) (v 0 ⊕ k (pos 0) ⊗ v 1) (x ∷ d ∷ []) refl)
 
-none-moved : (n : ℕ) (o : Option Fraction) (d : Fraction) → d ≡ whole (pos 0) → moved n d o ≡ o
+pub none-moved : (n : ℕ) (o : Option Fraction) (d : Fraction) → d ≡ whole (pos 0) → moved n d o ≡ o
 none-moved n None d e = refl
 none-moved n (Some x) d e = ap Some (solve_from fraction-ring (v 0 ⊕ v 1 ⊗ v 2) (v 0) (x ∷ whole (pos n) ∷ d ∷ []) (eq (v 1) (v 2) (k (pos 0)) e done) refl)
 
@@ -322,3 +322,27 @@ module _ (task : TaskParts) (s t : PlanState) (by : Instance) (h : HasStep task 
   -- so many steps where the conditions hold before the last
   pub rolled-run : (n : ℕ) → all_hold (at n) by.args h.action.conds ≡ true → Run task s (replicate (suc n) by) (at (suc n))
   rolled-run n last = runs-from (suc n) 0 (suc n) (omega arith) (λ m l. next-step m (hold-between m n (omega arith) last))
+
+-- ---- the state after a step tells whether literals stay
+told : (sign a d x y : Bool) → signed sign x ≡ true → y ≡ (a || (x && not d)) → signed sign y ≡ signed sign (a || (sign && not d))
+told true a d true y h e = e
+told true a d false y h e = absurd (cc)
+told false a d true y h e = absurd (cc)
+told false a d false y h e = ap not e
+
+module _ (task : TaskParts) (s t : PlanState) (by : Instance) (h : HasStep task s by t) where
+  leaf-told : (c : Cond) → holds s by.args c ≡ true → literal_holds t by.args c ≡ keeps h.changes by.args c
+  leaf-told (cond_.Lit sign p terms) first =
+      told sign (list_any (puts true p (objects_of by.args terms)) h.changes) (list_any (puts false p (objects_of by.args terms)) h.changes) (s.truth p (objects_of by.args terms)) (t.truth p (objects_of by.args terms)) first
+      (h.truth p (objects_of by.args terms))
+  leaf-told (cond_.Same sign left right) first = refl
+  leaf-told (cond_.Compare rel left right) first = refl
+
+  leaves-told : (conds : List Cond) → all_hold s by.args conds ≡ true → list_all (literal_holds t by.args) conds ≡ list_all (keeps h.changes by.args) conds
+  leaves-told [] first = refl
+  leaves-told (c ∷ conds) first =
+      let b = and_parts (holds s by.args c) (all_hold s by.args conds) first in
+      ap₂ (λ (x y : Bool). x && y) (leaf-told c b.0) (leaves-told conds b.1)
+
+  pub literals-told : list_all (literal_holds t by.args) h.action.conds ≡ list_all (keeps h.changes by.args) h.action.conds
+  literals-told = leaves-told h.action.conds h.conditions

@@ -31,7 +31,7 @@ none_by test xs i d within none false e = refl
 none_at : {X : Type 0} (test : X → Bool) (xs : List X) (i : ℕ) (d : X) → i < length xs → list_any test xs ≡ false → test (get_or xs i d) ≡ false
 none_at test xs i d within none = none_by test xs i d within none (test (get_or xs i d)) refl
 
-none_of : (test : Target → Bool) (touches : List Touch) (i : ℕ) (t : Touch) → i < length touches → t ≡ get_or touches i t → list_any test (map target_of touches) ≡ false → test (target_of t) ≡ false
+pub none_of : (test : Target → Bool) (touches : List Touch) (i : ℕ) (t : Touch) → i < length touches → t ≡ get_or touches i t → list_any test (map target_of touches) ≡ false → test (target_of t) ≡ false
 none_of test touches i t within is none =
     let n : i < length (map target_of touches) = subst (λ n. i < n) (sym (length-map touches target_of)) within in
     ap test (sym (get_or-map target_of touches i t (target_of t) within ∙ ap target_of (sym is))) ∙ none_at test (map target_of touches) i (target_of t) n none

@@ -10,6 +10,7 @@ pub mod Effects
 pub mod Step
 pub mod Repeat
 pub mod Rolling
+pub mod StepsOn
 pub mod Held
 pub mod Making
 pub mod inside

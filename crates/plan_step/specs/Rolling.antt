@@ -28,6 +28,12 @@ keeps changes args (cond.Lit sign pred terms) = signed sign (truth_after changes
 keeps changes args (cond.Same sign left right) = true
 keeps changes args (cond.Compare rel left right) = true
 
+-- each literal holds; other leaves aren't looked at
+abbrev pub literal_holds : PlanState → List ℕ → Cond → Bool
+literal_holds state args (cond.Lit sign pred terms) = signed sign (state.truth pred (objects_of args terms))
+literal_holds state args (cond.Same sign left right) = true
+literal_holds state args (cond.Compare rel left right) = true
+
 -- by how much a step grows a function
 abbrev pub amount_of : NumOp → Fraction → Fraction
 amount_of Assign by = whole (pos 0)

@@ -4,6 +4,7 @@ pub mod Start
 pub mod Touches
 pub mod Application
 pub mod Fitting
+pub mod Jumping
 pub mod Sums
 pub mod Undoing
 pub mod Repeating

@@ -28,7 +28,7 @@ fn is_related(rel: Rel, x: &Frac, y: &Frac) -> bool
     }
 }
 
-fn signed(pos: bool, holds: bool) -> bool
+pub(crate) fn signed(pos: bool, holds: bool) -> bool
     ensures { result ≡ meaning.signed pos holds }
 {
     if pos { holds } else { !holds }

@@ -13,7 +13,8 @@ ghost use Rattle.plan_step.specs.Conditions.{goal_met};
 ghost use Rattle.plan_step.specs.Step.{step_from};
 ghost use Rattle.pddl_task.specs.Linear.{IsLinear};
 ghost use Rattle.plan_step.specs.Repeat.{repeated_from};
-ghost use Rattle.plan_step.specs.Rolling.{IsRollable, rolled};
+ghost use Rattle.std.specs.List.{list_all};
+ghost use Rattle.plan_step.specs.Rolling.{IsRollable, keeps, literal_holds, rolled};
 ghost use Rattle.plan_step.specs.Meaning.{all_hold, value_of, HasStep, Run, IsValidPlan};
 ghost use Rattle.frac128.specs.Operations.{Passes};
 ghost use Rattle.frac128.specs.declared.operations.Wide.{Wide};
@@ -100,4 +101,11 @@ pub fn rolling()
         → all_hold (rolled h.changes s n) by.args h.action.conds ≡ true → Run task s (replicate (suc n) by) (rolled h.changes s (suc n)) }
     ensures between { (task : TaskParts) (s t : PlanState) (by : Instance) (h : HasStep task s by t) (m n : ℕ) → IsLinear task → IsRollable task h.action by.args h.changes → m ≤ n
         → all_hold (rolled h.changes s n) by.args h.action.conds ≡ true → all_hold (rolled h.changes s m) by.args h.action.conds ≡ true }
+{}
+
+/// After a step the state tells whether the literals stay: they hold there exactly where each that holds before the step's
+/// changes holds after them.
+pub fn literals_are_told()
+    ensures { (task : TaskParts) (s t : PlanState) (by : Instance) (h : HasStep task s by t)
+        → list_all (literal_holds t by.args) h.action.conds ≡ list_all (keeps h.changes by.args) h.action.conds }
 {}

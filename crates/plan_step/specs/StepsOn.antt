@@ -1,0 +1,21 @@
+-- Values so many steps on, where each step grows a function by the same amount, and the operations that make them (this
+-- project).
+use Rattle.std.specs.Prelude.{◌≡◌, ◌⊎◌, ℕ, pos, Result, Ok, Err}
+use Rattle.rational.specs.Fraction.{Fraction, whole, ◌+ℚ◌, ◌*ℚ◌}
+use Rattle.frac128.specs.Operations.{Passes}
+use Rattle.frac128.specs.declared.operations.Op.TheVariants.{Add, Mul}
+use Rattle.frac128.specs.declared.operations.Wide.{Wide}
+use Rattle.plan_step.specs.Met.{wide}
+
+-- the value x of a function that grows by q, n steps on: `mul q n`, and then `add x` of the product
+abbrev pub IsGrowthOp : Fraction → Fraction → Fraction → Wide → Type 0
+IsGrowthOp x q n w = (w ≡ wide Mul q n) ⊎ (w ≡ wide Add x (q *ℚ n))
+
+-- a number of steps above 2^127-1 stands as the sum that passes it
+abbrev pub above_most : Wide
+above_most = wide Add (whole (pos 170141183460469231731687303715884105727)) (whole (pos 1))
+
+-- the value n steps on, or an operation of making it that passes
+abbrev pub GrowsBy : Fraction → Fraction → ℕ → Result Fraction Wide → Type 0
+GrowsBy x q n (Ok y) = y ≡ x +ℚ whole (pos n) *ℚ q
+GrowsBy x q n (Err w) = ((w ≡ above_most) ⊎ IsGrowthOp x q (whole (pos n)) w) × Passes w.op w.x w.y
