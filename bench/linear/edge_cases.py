@@ -36,6 +36,14 @@ def mul(x, y):
     return x * y
 
 
+def div(x, y):
+    a, b, c, d = x.numerator, x.denominator, y.numerator, y.denominator
+    g, h = gcd(a, c), gcd(d, b)
+    if not within((a // g) * (d // h), (b // h) * (c // g)):
+        raise Wide(f"wide:div:{show(x)}:{show(y)}")
+    return x / y
+
+
 def show(x):
     return str(x.numerator) if x.denominator == 1 else f"{x.numerator}/{x.denominator}"
 
@@ -59,6 +67,10 @@ class Lin:
     def scale(self, by):
         terms = {v: mul(by, c) for v, c in self.terms.items()}
         return Lin(terms, mul(by, self.constant))
+
+    def div(self, by):
+        terms = {v: div(c, by) for v, c in self.terms.items()}
+        return Lin(terms, div(self.constant, by))
 
     def neg(self):
         return Lin({v: -c for v, c in self.terms.items()}, -self.constant)
@@ -103,6 +115,10 @@ def rows():
         for j in (0, 3, 4, 7):
             by = factors[(i + j) % len(factors)]
             lines.append(f"scale {x} {show(by)} {answer(lambda: x.scale(by))}")
+        for j in (0, 3, 4, 7):
+            by = factors[(i + j) % len(factors)]
+            if by != 0:
+                lines.append(f"div {x} {show(by)} {answer(lambda: x.div(by))}")
         lines.append(f"neg {x} - {x.neg()}")
         for j in (1, 4):
             of = [expressions[(i + j + k) % len(expressions)] for k in range(3)]

@@ -34,6 +34,11 @@ fn answer(
     match call {
         "add" => shown(alloc, lin.add(&read_lin(rt, alloc, argument)?)),
         "scale" => shown(alloc, lin.scale(&read(rt, argument))),
+        "div" => {
+            let by = read(rt, argument);
+            assert!(rt; by.num() != 0);
+            shown(alloc, lin.div(&by))
+        }
         "neg" => Ok(written(alloc, &lin.neg()?)?),
         "subst" => {
             let of = read_lins(rt, alloc, argument)?;
