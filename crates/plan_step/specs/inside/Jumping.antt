@@ -1,5 +1,5 @@
 -- A jump over repetitions: what it tests and what it makes.
-use Rattle.std.specs.Prelude.{◌≡◌, ◌⊎◌, ℕ, ◌<◌, false, List, map, length, pos, slice_index_or, Option, Some, None, Result, Ok, Err}
+use Rattle.std.specs.Prelude.{◌≡◌, ◌⊎◌, ℕ, ◌+◌, ◌<◌, ◌≤◌, false, List, map, length, pos, slice_index_or, Option, Some, None, Result, Ok, Err}
 use Rattle.std.specs.List.{list_any}
 use Rattle.std.specs.Option.{option_map}
 use Rattle.rational.specs.Fraction.{Fraction, whole, ◌+ℚ◌, ◌*ℚ◌, ◌-ℚ◌}
@@ -11,6 +11,7 @@ use Rattle.plan_step.specs.declared.touches.Touch.TheVariants as touch
 use Rattle.plan_step.specs.State.{PlanState}
 use Rattle.plan_step.specs.declared.failure.StepFail.{StepFail}
 use Rattle.plan_step.specs.declared.failure.StepFail.TheVariants as fail
+use Rattle.plan_step.specs.declared.failure.RepeatFail.{RepeatFail}
 use Rattle.plan_step.specs.Conditions.{leaves_met, first_unmet}
 use Rattle.plan_step.specs.Meaning.{Change, truth_after}
 use Rattle.plan_step.specs.Rolling.{growth, rolled}
@@ -129,3 +130,27 @@ abbrev pub TestsAt : List ℕ → List Cond → List Touch → List Fraction →
 TestsAt args conds touches qs n old new r =
     (s : PlanState) → IsBase s touches qs old
     → IsRollFail (changes_of touches) s n r ⊎ ((new ≡ rolled (changes_of touches) s n) × (r ≡ tested args conds (changes_of touches) s n))
+
+-- ---- the first repetition that fails
+
+-- at this repetition an operation passes: of making the state before it, or of its conditions
+pub record PassesTested (args : List ℕ) (conds : List Cond) (changes : List Change) (s : PlanState) (last : ℕ) (f : RepeatFail) : Type 0 where
+  pub n : ℕ
+  pub number : f.at ≡ n + 1
+  pub within : n ≤ last
+  pub w : Wide
+  pub is : f.fail ≡ fail.Wide w
+  pub operation : (IsRollOp changes s n w × Passes w.op w.x w.y) ⊎ (tested args conds changes s n ≡ Err (fail.Wide w))
+
+-- the conditions hold after n steps and fail after one more
+pub record IsFirstFailing (args : List ℕ) (conds : List Cond) (changes : List Change) (s : PlanState) (last : ℕ) (f : RepeatFail) : Type 0 where
+  pub n : ℕ
+  pub number : f.at ≡ n + 2
+  pub within : n < last
+  pub holds : tested args conds changes s n ≡ Ok tt
+  pub fails : tested args conds changes s (n + 1) ≡ Err f.fail
+
+abbrev pub FindsFirst : List ℕ → List Cond → List Touch → List Fraction → ℕ → StepFail → PlanState → RepeatFail → Type 0
+FindsFirst args conds touches qs last e old f =
+    (s : PlanState) → IsBase s touches qs old → tested args conds (changes_of touches) s 0 ≡ Ok tt → tested args conds (changes_of touches) s last ≡ Err e
+    → PassesTested args conds (changes_of touches) s last f ⊎ IsFirstFailing args conds (changes_of touches) s last f
