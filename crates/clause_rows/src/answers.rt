@@ -1,0 +1,83 @@
+//! What the core answers of a row. The row's texts are the number of Booleans, the steps that the log may have, the step at
+//! which the sink fails, counted from 0, and the clauses.
+use crate::checker::Checker;
+use crate::reading::read_formula;
+use clause_core::{Core, CoreFail, Outcome};
+use formula::Formula;
+use std::alloc::{AllocError, Global};
+use std::str;
+use theory_law::{NoTheory, Theory};
+
+/// The answer of a row: `sat` where a point is found, `unsat` where the log has the empty clause, `spent` where its steps are
+/// spent, and `stopped` where the sink failed. It says `wrong` behind that where the checker finds a fault. The call `count`
+/// also says how many steps there were.
+pub fn answer(alloc: Global, call: &str, texts: &[Vec<u8>]) -> Result<String, AllocError> {
+    let Some(row) = read_row(texts) else {
+        return String::from_str(alloc, "not a row");
+    };
+    let Some(formula) = read_formula(alloc, row.booleans, row.clauses)? else {
+        return String::from_str(alloc, "no formula");
+    };
+    let found = solve(alloc, formula, row.steps, row.fails_at)?;
+    let judged = if found.is_wrong { " wrong" } else { "" };
+    if call == "count" {
+        return format!(in alloc; "{}{judged} {}", found.answer, found.steps);
+    }
+    format!(in alloc; "{}{judged}", found.answer)
+}
+
+#[derive(Drop)]
+struct Row<'a> {
+    booleans: u64,
+    steps: u64,
+    fails_at: u64,
+    clauses: &'a str,
+}
+
+fn read_row(texts: &[Vec<u8>]) -> Option<Row<'_>> {
+    let [booleans, steps, fails_at, clauses] = texts else {
+        return None;
+    };
+    Some(Row {
+        booleans: read_number(booleans.as_slice())?,
+        steps: read_number(steps.as_slice())?,
+        fails_at: read_number(fails_at.as_slice())?,
+        clauses: str::from_utf8(clauses.as_slice()).ok()?,
+    })
+}
+
+fn read_number(text: &[u8]) -> Option<u64> {
+    str::from_utf8(text).ok()?.parse::<u64>().ok()
+}
+
+#[derive(Drop)]
+struct Found {
+    answer: &'static str,
+    is_wrong: bool,
+    steps: u64,
+}
+
+/// Solves the formula, and judges the log, the empty clause and the point.
+fn solve(alloc: Global, formula: Formula, steps: u64, fails_at: u64) -> Result<Found, AllocError> {
+    let mut checker = Checker::new(alloc, &formula, fails_at)?;
+    let Ok(theory) = NoTheory::start(alloc, &formula, 1) else {
+        return Ok(Found {
+            answer: "not started",
+            is_wrong: false,
+            steps: 0,
+        });
+    };
+    let core = Core::new(alloc, formula, theory)?;
+    let (answer, is_right) = match core.solve(steps, &mut checker) {
+        Ok(Outcome::Found(point)) => ("sat", checker.is_met(point.truth.as_slice())),
+        Ok(Outcome::Empty) => ("unsat", checker.is_empty()),
+        Err(CoreFail::Steps) => ("spent", checker.steps == steps),
+        Err(CoreFail::Sink) => ("stopped", checker.steps == fails_at),
+        Err(_fail) => ("refused", true),
+    };
+    Ok(Found {
+        answer,
+        is_wrong: !is_right || checker.unsound > 0 || checker.needless > 0,
+        steps: checker.steps,
+    })
+}
