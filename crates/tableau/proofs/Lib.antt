@@ -1,0 +1,13 @@
+pub mod NamedLaws
+pub mod SumLaws
+pub mod PivotLaws
+pub mod UniqueLaws
+pub mod RowAnswers
+pub mod Listing
+pub mod FilledRows
+pub mod Exchanging
+pub mod TableFacts
+pub mod PivotSteps
+pub mod PivotFields
+pub mod Dense
+pub mod Starting

@@ -1,0 +1,4 @@
+pub mod Basis
+pub mod Exchange
+pub mod Rows
+pub mod Start
