@@ -4,6 +4,7 @@ use Rattle.std.specs.List.{list_all, flat_map, filter_map, cons_option}
 use Rattle.std.proofs.lemmas.List.Folds.{list_any-append}
 use Rattle.rational.specs.Fraction.{Fraction}
 use Rattle.lin.specs.declared.comparison.Cmp.{Cmp}
+use Rattle.pddl_task.specs.declared.action.Action.{Action}
 use Rattle.pddl_task.specs.declared.condition.Cond.{Cond}
 use Rattle.pddl_task.specs.declared.condition.Cond.TheVariants as cond_
 use Rattle.pddl_task.specs.declared.condition.Rel.{Rel}
@@ -130,10 +131,28 @@ module _ (task : TaskParts) (atoms funcs : List Named) where
         by_move move_bent h ih = ih
         by_move (move m) h ih = both _ _ h ih
 
-module _ (task : TaskParts) where
-  abbrev numbered : Setting
-  numbered = setting_of task (atoms_of task) (funcs_of task)
+-- whatever the tables, where all that an instance names stands in them
+pub instance_numbered : (task : TaskParts) (atoms funcs : List Named) (a : Action) (args : List ℕ) → Within (instance_atoms task a args) atoms → Within (instance_funcs task a args) funcs
+    → is_numbered (setting_of task atoms funcs) (leaves_of (setting_of task atoms funcs) a args) (moves_of (setting_of task atoms funcs) a args) ≡ true
+instance_numbered task atoms funcs a args in_atoms in_funcs =
+    both _ _
+    (all_numbered task atoms funcs (all_reads (leaves_of (setting_of task atoms funcs) a args) (moves_of (setting_of task atoms funcs) a args))
+    (through _ _ _ (side_by_side _ _ _ _ (leaves_within task atoms funcs args a.conds) (moves_within task atoms funcs args a.effs)) in_funcs))
+    (both _ _
+    (literals_in task atoms funcs args a.conds (through _ _ _ (in_front _ (flat_map (effect_atoms args) a.effs)) in_atoms))
+    (moves_numbered task atoms funcs args a.effs
+    (through _ _ _ (in_back (flat_map (cond_atoms task args) a.conds) _) in_atoms)
+    (through _ _ _ (in_back (flat_map (cond_funcs task args) a.conds) _) in_funcs)))
 
+pub whole_goal_numbered : (task : TaskParts) (atoms funcs : List Named) → Within (flat_map (cond_atoms task []) task.goal) atoms → Within (flat_map (cond_funcs task []) task.goal) funcs
+    → is_numbered (setting_of task atoms funcs) (goal_leaves (setting_of task atoms funcs) task.goal) [] ≡ true
+whole_goal_numbered task atoms funcs in_atoms in_funcs =
+    both _ _
+    (all_numbered task atoms funcs (all_reads (goal_leaves (setting_of task atoms funcs) task.goal) [])
+    (through _ _ _ (no_more _) (through _ _ _ (goal_within task atoms funcs [] task.goal) in_funcs)))
+    (both _ _ (goal_literals task atoms funcs [] task.goal in_atoms) refl)
+
+module _ (task : TaskParts) where
   funcs_within : (n : ℕ) (k : Kept) → slice_get (kept_instances task) n ≡ Some k → Within (instance_funcs task k.action k.args) (funcs_of task)
   unfolding funcs_of
   funcs_within n k e =
@@ -154,19 +173,7 @@ module _ (task : TaskParts) where
 
   pub kept_numbered : (n : ℕ) (k : Kept) → slice_get (kept_instances task) n ≡ Some k
       → is_numbered (setting_of task (atoms_of task) (funcs_of task)) (leaves_of (setting_of task (atoms_of task) (funcs_of task)) k.action k.args) (moves_of (setting_of task (atoms_of task) (funcs_of task)) k.action k.args) ≡ true
-  kept_numbered n k e =
-      both _ _
-      (all_numbered task (atoms_of task) (funcs_of task) (all_reads (leaves_of numbered k.action k.args) (moves_of numbered k.action k.args))
-      (through _ _ _ (side_by_side _ _ _ _ (leaves_within task (atoms_of task) (funcs_of task) k.args k.action.conds) (moves_within task (atoms_of task) (funcs_of task) k.args k.action.effs)) (funcs_within n k e)))
-      (both _ _
-      (literals_in task (atoms_of task) (funcs_of task) k.args k.action.conds (through _ _ _ (in_front _ (flat_map (effect_atoms k.args) k.action.effs)) (atoms_within n k e)))
-      (moves_numbered task (atoms_of task) (funcs_of task) k.args k.action.effs
-      (through _ _ _ (in_back (flat_map (cond_atoms task k.args) k.action.conds) _) (atoms_within n k e))
-      (through _ _ _ (in_back (flat_map (cond_funcs task k.args) k.action.conds) _) (funcs_within n k e))))
+  kept_numbered n k e = instance_numbered task (atoms_of task) (funcs_of task) k.action k.args (atoms_within n k e) (funcs_within n k e)
 
   pub goal_numbered : is_numbered (setting_of task (atoms_of task) (funcs_of task)) (goal_leaves (setting_of task (atoms_of task) (funcs_of task)) task.goal) [] ≡ true
-  goal_numbered =
-      both _ _
-      (all_numbered task (atoms_of task) (funcs_of task) (all_reads (goal_leaves numbered task.goal) [])
-      (through _ _ _ (no_more _) (through _ _ _ (goal_within task (atoms_of task) (funcs_of task) [] task.goal) goal_funcs_within)))
-      (both _ _ (goal_literals task (atoms_of task) (funcs_of task) [] task.goal goal_atoms_within) refl)
+  goal_numbered = whole_goal_numbered task (atoms_of task) (funcs_of task) goal_atoms_within goal_funcs_within

@@ -1,0 +1,12 @@
+pub mod ActionLaws
+pub mod Distinct
+pub mod Lists
+pub mod ActionGrowth
+pub mod Plain
+pub mod ReadLaws
+pub mod WorkGrowth
+pub mod ResultLaws
+pub mod Standing
+pub mod StepLaws
+pub mod TellLaws
+pub mod VariableLaws

@@ -1,0 +1,2 @@
+pub mod Result
+pub mod Laws
