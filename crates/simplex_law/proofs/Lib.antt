@@ -1,0 +1,11 @@
+pub mod PairLaws
+pub mod Small
+pub mod Fitting
+pub mod Clashing
+pub mod Placing
+pub mod PairSums
+pub mod Keeping
+pub mod Moving
+pub mod Bland
+pub mod Circle
+pub mod Traces

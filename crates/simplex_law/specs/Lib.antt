@@ -1,0 +1,5 @@
+pub mod Pairs
+pub mod Bounds
+pub mod Config
+pub mod Readings
+pub mod Runs
