@@ -1,0 +1,4 @@
+pub mod Readings
+pub mod Units
+pub mod Keeping
+pub mod Cutting
