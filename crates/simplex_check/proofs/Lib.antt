@@ -1,0 +1,4 @@
+pub mod Running
+pub mod Knowing
+pub mod Stepping
+pub mod Consistent

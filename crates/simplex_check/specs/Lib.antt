@@ -1,0 +1,5 @@
+pub mod Value
+pub mod Known
+pub mod Checks
+pub mod Starts
+pub mod inside
