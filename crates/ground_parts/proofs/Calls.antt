@@ -1,4 +1,4 @@
--- What a task and its numbers say of a function that isn't there.
+-- What a task and its numbers say of a function or a predicate that isn't there.
 use Rattle.std.proofs.Common.{◌≡◌, ℕ, zero, suc, ◌≤◌, Bool, true, false, cond, ◌||◌, ◌==◌, List, [], ◌∷◌, length, Option, Some, None, refl, sym, ap, ap₂, ◌∙◌, arith, nat_lt}
 use Rattle.std.specs.List.{list_all, list_any}
 use Rattle.std.proofs.lemmas.Bool.{and_parts}
@@ -7,7 +7,7 @@ use Rattle.pddl_task.specs.declared.action.Action.{Action}
 use Rattle.pddl_task.specs.declared.effect.Effect.{Effect}
 use Rattle.pddl_task.specs.declared.effect.Effect.TheVariants as effect
 use Rattle.pddl_task.specs.declared.parts.TaskParts.{TaskParts}
-use Rattle.pddl_task.specs.Task.{changes_func, is_changing_func}
+use Rattle.pddl_task.specs.Task.{changes_pred, changes_func, is_changing_pred, is_changing_func}
 use Rattle.pddl_task.specs.Numbers.{Counts, counts_of, is_effect, is_action, IsNumbered}
 use Rattle.ground_numbers.specs.declared.named.Named.{Named}
 use Rattle.ground_numbers.specs.Numbers.{same, is_listed, number_in, found_in}
@@ -29,6 +29,21 @@ none_change counts f l (a ∷ bs) h = let hs = and_parts _ _ h in
 -- no effect names a function that isn't there
 pub unchanged : (task : TaskParts) (f : ℕ) → IsNumbered task → length task.funcs ≤ f → false ≡ is_changing_func task.actions f
 unchanged task f h l = sym (none_change (counts_of task) f l task.actions h.actions)
+
+no_puts : (counts : Counts) (k p : ℕ) → counts.preds ≤ p → (es : List Effect) → list_all (is_effect counts k) es ≡ true → list_any (changes_pred p) es ≡ false
+no_puts counts k p l [] h = refl
+no_puts counts k p l (effect.Put sign pred args ∷ es) h = let hs = and_parts _ _ h in
+    ap₂ ◌||◌ (other_number pred p counts.preds (and_parts _ _ hs.0).0 l) (no_puts counts k p l es hs.1)
+no_puts counts k p l (effect.Change op func args by ∷ es) h = no_puts counts k p l es (and_parts _ _ h).1
+
+no_put : (counts : Counts) (p : ℕ) → counts.preds ≤ p → (bs : List Action) → list_all (is_action counts) bs ≡ true → is_changing_pred bs p ≡ false
+no_put counts p l [] h = refl
+no_put counts p l (a ∷ bs) h = let hs = and_parts _ _ h in
+    ap₂ ◌||◌ (no_puts counts (length a.params) p l a.effs (and_parts _ _ (and_parts _ _ hs.0).1).1) (no_put counts p l bs hs.1)
+
+-- nor a predicate
+pub unchanged_pred : (task : TaskParts) (p : ℕ) → IsNumbered task → length task.preds ≤ p → false ≡ is_changing_pred task.actions p
+unchanged_pred task p h l = sym (no_put (counts_of task) p l task.actions h.actions)
 
 -- what isn't listed has the number after the last
 unlisted : (ks : List Named) (k : Named) → is_listed same ks k ≡ false → length ks ≡ number_in same ks k

@@ -1,38 +1,28 @@
 //! The part that a call of a function is. Begin with `call`.
 ghost use Rattle.std.specs.Prelude.{◌≡◌};
-ghost use Rattle.pddl_task.specs.Task.{is_changing_func};
 ghost use Rattle.plan_step.specs.Meaning.{objects_of};
 ghost use Rattle.ground_numbers.specs.Numbers.{named, same, number_in};
 ghost use Rattle.ground_parts.specs.inside.Giving.{Gives};
 ghost use Rattle.ground_parts.specs.Forms.{setting_in};
 ghost use Rattle.ground_parts.specs.inside.Parts.{call_met, given_form};
 
+use crate::changing::changes_func;
 use crate::given::Grounding;
-use crate::objects::objects;
 use crate::part::Part;
+use crate::terms::objects;
 use frac128::Frac;
 use ground_numbers::Numbers;
 use lin::{Lin, LinFail};
-use pddl_task::{Task, Term};
+use pddl_task::Term;
 use std::alloc::Global;
 
-/// Whether an effect of some action names the function.
-pub(crate) fn changes(task: &Task, func: u32) -> bool
-    ensures { result ≡ is_changing_func task.now.actions func }
+/// The number of a ground thing; one that the table hasn't gets the next one.
+pub fn number(table: &Numbers, symbol: u32, args: &[u32]) -> u64
+    ensures { result ≡ number_in same table.now (named symbol args.now) }
 {
-    if func >= task.funcs() {
-        return false;
-    }
-    task.changing_func(func)
-}
-
-/// The number of a ground function; one that has none gets the next one.
-pub(crate) fn number(funcs: &Numbers, func: u32, args: &[u32]) -> u64
-    ensures { result ≡ number_in same funcs.now (named func args.now) }
-{
-    match funcs.number(func, args) {
+    match table.number(symbol, args) {
         Some(n) => n,
-        None => funcs.len(),
+        None => table.len(),
     }
 }
 
@@ -55,7 +45,7 @@ fn call_at(
 ) -> Result<Option<Part>, LinFail>
     ensures { Gives (call_met (setting_in given.now) (named func args.now)) result }
 {
-    if !changes(given.task, func) {
+    if !changes_func(given.task, func) {
         return constant(given.start.value(func, args));
     }
     let number = number(given.funcs, func, args);

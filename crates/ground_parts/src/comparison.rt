@@ -25,7 +25,8 @@ pub enum Compared {
     Left(Lin, Cmp),
 }
 
-fn is_related(rel: Rel, x: &Frac, y: &Frac) -> bool
+/// Whether two fractions are related so.
+pub fn is_related(rel: Rel, x: &Frac, y: &Frac) -> bool
     ensures { result ≡ related rel x.now y.now }
 {
     let order = x.cmp(y);

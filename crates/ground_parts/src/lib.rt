@@ -3,14 +3,18 @@
 #![tactic(auto)]
 
 mod call;
+mod changing;
 mod comparison;
 mod expression;
 mod given;
 mod joint;
-mod objects;
 mod part;
+mod terms;
 
-pub use comparison::{Compared, compare};
+pub use call::number;
+pub use changing::{changes_func, changes_pred};
+pub use comparison::{Compared, compare, is_related};
 pub use expression::part_of;
 pub use given::Grounding;
 pub use part::Part;
+pub use terms::{object, objects};

@@ -7,7 +7,7 @@ use sqlite_items::Items;
 use std::alloc::{AllocError, Global};
 
 /// The object of one term.
-pub(crate) fn object(args: &[u32], term: Term) -> u32
+pub fn object(args: &[u32], term: Term) -> u32
     ensures { result ≡ object_of args.now term }
 {
     match term {
@@ -16,8 +16,8 @@ pub(crate) fn object(args: &[u32], term: Term) -> u32
     }
 }
 
-/// A list of the objects.
-pub(crate) fn objects(alloc: Global, args: &[u32], terms: &[Term]) -> Result<Items<u32>, AllocError>
+/// A list of the objects of terms.
+pub fn objects(alloc: Global, args: &[u32], terms: &[Term]) -> Result<Items<u32>, AllocError>
     ensures { IfOk result (λ objects. objects ≡ objects_of args.now terms.now) }
 {
     let mut objects = Vec::with_capacity(alloc, terms.len())?;
