@@ -4,7 +4,7 @@ use Rattle.rational.specs.Fraction.{Fraction}
 use Rattle.frac128.specs.declared.operations.Wide.{Wide}
 use Rattle.tableau.specs.Table.{Table, width, cell, is_basic, Solves}
 use Rattle.tableau.specs.Pivot.{PivotPasses}
-use Rattle.simplex_law.specs.Config.{Limits, IsPlaced, IsSettled, IsStuck, IsLeastViolated, IsLeastHelp}
+use Rattle.simplex_law.specs.Config.{Limits, value_of, IsPlaced, IsSettled, IsStuck, IsLeastViolated, IsLeastHelp}
 use Rattle.simplex_law.specs.Runs.{Reaches}
 use Rattle.simplex_law.specs.declared.pair.Pair.{Pair}
 use Rattle.simplex_law.specs.declared.bound.Bound.{Bound}
@@ -47,3 +47,8 @@ EndsIn l pivots swaps t place (Err Memory) = Unit {0}
 abbrev pub CheckAnswers : Limits → Table → (ℕ → Pair) → ℕ → List (ℕ × ℕ) → Table → (ℕ → Pair) → Result Verdict CheckFail → Type 0
 CheckAnswers l t place pivots swaps after place' (Err Memory) = (width after ≡ width t) × ((point : ℕ → Fraction) → Solves t point ↔ Solves after point)
 CheckAnswers l t place pivots swaps after place' r = LeadsTo l t place swaps after place' × (length swaps ≤ pivots) × EndsIn l pivots swaps after place' r
+
+-- the values of all variables are put into a list, or an operation of one passes
+abbrev pub ValuesAnswer : Table → (ℕ → Pair) → (ℕ → Pair) → Result (Unit {0}) Wide → Type 0
+ValuesAnswer t place values (Ok _) = (i : ℕ) → i < width t → values i ≡ value_of t place i
+ValuesAnswer t place values (Err w) = ValuePasses t place w

@@ -10,6 +10,8 @@ mod number;
 mod starting;
 mod step;
 mod value;
+mod values;
 
 pub use checking::{CheckFail, Verdict, check};
 pub use starting::{crossing, start};
+pub use values::all_values;

@@ -4,7 +4,7 @@ use Rattle.frac128.specs.declared.operations.Wide.{Wide}
 use Rattle.rational.specs.Fraction.{Fraction}
 use Rattle.tableau.specs.Table.{Table, width, is_basic, Solves}
 use Rattle.simplex_law.specs.Bounds.{BelowLower, AboveUpper, OnLower, OnUpper}
-use Rattle.simplex_law.specs.Config.{Limits, pair_at, row_pair, IsOn, IsPlaced, IsSettled, IsStuck, Helps, Violates, IsLeastViolated, IsLeastHelp, IsNext}
+use Rattle.simplex_law.specs.Config.{Limits, pair_at, row_pair, value_of, IsOn, IsPlaced, IsSettled, IsStuck, Helps, Violates, IsLeastViolated, IsLeastHelp, IsNext}
 use Rattle.simplex_law.specs.declared.pair.Pair.{Pair}
 use Rattle.simplex_law.specs.declared.bound.Bound.{Bound}
 use Rattle.simplex_law.specs.declared.bound.Side.{Side}
@@ -26,6 +26,11 @@ abbrev pub SideAtAnswers : Limits → Table → (ℕ → Pair) → ℕ → Resul
 SideAtAnswers l t place i (Ok None) = IsTrue (is_basic t i) → IsOn l i (row_pair t place i)
 SideAtAnswers l t place i (Ok (Some side)) = IsTrue (is_basic t i) × Violates l t place i side
 SideAtAnswers l t place i (Err w) = IsTrue (is_basic t i) × PairPasses t place i w
+
+-- the value of a variable, basic or not
+abbrev pub ValueAtAnswers : Table → (ℕ → Pair) → ℕ → Result Pair Wide → Type 0
+ValueAtAnswers t place i (Ok x) = x ≡ value_of t place i
+ValueAtAnswers t place i (Err w) = IsTrue (is_basic t i) × PairPasses t place i w
 
 abbrev pub ViolatedAnswers : Limits → Table → (ℕ → Pair) → Result (Option (ℕ × Side)) Wide → Type 0
 ViolatedAnswers l t place (Ok None) = IsSettled l t place
