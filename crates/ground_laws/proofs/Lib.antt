@@ -1,5 +1,6 @@
 pub mod ActionLaws
 pub mod Distinct
+pub mod Growth
 pub mod Lists
 pub mod ActionGrowth
 pub mod Plain

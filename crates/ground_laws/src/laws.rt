@@ -1,5 +1,12 @@
 //! Laws of the ground task of a task. Each stands as a function with an empty body, whose clauses are the laws.
-ghost use Rattle.std.specs.Prelude.{◌≡◌, ◌≤◌, ◌↔◌, ℕ, true, List, [], length, slice_get, Some};
+ghost use Rattle.std.specs.Prelude.{◌≡◌, ◌≤◌, ◌↔◌, ◌++◌, ℕ, true, not, List, [], length, slice_get, Some};
+ghost use Rattle.std.specs.List.{list_all};
+ghost use Rattle.pddl_task.specs.declared.action.Action.{Action};
+ghost use Rattle.ground_numbers.specs.declared.named.Named.{Named};
+ghost use Rattle.ground_numbers.specs.Numbers.{same, is_listed};
+ghost use Rattle.ground_action.specs.Setting.{setting_of};
+ghost use Rattle.ground_action.specs.Work.{instance_ops};
+ghost use Rattle.ground_walk.specs.Sightings.{instance_atoms, instance_funcs};
 ghost use Rattle.pddl_task.specs.Linear.{IsLinear};
 ghost use Rattle.pddl_task.specs.declared.instance.Instance.{Instance};
 ghost use Rattle.pddl_task.specs.declared.parts.TaskParts.{TaskParts};
@@ -44,4 +51,12 @@ pub fn instance_with_step_has_its_action()
 #[tactic(auto, using(crate::proofs::StepLaws::goal_is))]
 pub fn goal_holds_as_ground_goal()
     ensures { (task : TaskParts) → IsLinear task → (s : PlanState) (g : State) → IsSeenAs task s g → (all_hold s [] task.goal ≡ true) ↔ Holds (task_from task).goal g }
+{}
+
+/// The operations of an instance whose names have numbers stay the same, in their order, when more is numbered behind: so the walk
+/// may work an instance out before all numbers are known.
+pub fn more_numbers_change_no_operation()
+    ensures { (task : TaskParts) (atoms more funcs later : List Named) → list_all (λ k. not (is_listed same atoms k)) more ≡ true → list_all (λ k. not (is_listed same funcs k)) later ≡ true
+        → (a : Action) (args : List ℕ) → list_all (is_listed same atoms) (instance_atoms task a args) ≡ true → list_all (is_listed same funcs) (instance_funcs task a args) ≡ true
+        → instance_ops (setting_of task (atoms ++ more) (funcs ++ later)) a args ≡ instance_ops (setting_of task atoms funcs) a args }
 {}
