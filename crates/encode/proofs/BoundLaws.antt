@@ -20,11 +20,11 @@ use Rattle.formula.specs.Atoms.{is_one_count, LeadsWithOne, IsAtom}
 use Rattle.formula.proofs.Splits.{split_is_atom}
 use Rattle.encode.specs.declared.bound.Bound.{Bound}
 use Rattle.encode.specs.declared.bound.Bound.TheVariants.{Always, Never, Of}
-use Rattle.encode.specs.Numbering.{atom, Plain, of, constant_plain, is_positive, divided, linear_atom, plain_at_most, plain_below, at_most_terms, below_terms}
-use Rattle.encode.specs.Refusals.{quotient_ops, bound_ops_of, bound_ops}
+use Rattle.encode_laws.specs.Numbering.{atom, Plain, of, constant_plain, is_positive, divided, linear_atom, plain_at_most, plain_below, at_most_terms, below_terms}
+use Rattle.encode_laws.specs.Refusals.{quotient_ops, bound_ops_of, bound_ops}
 use Rattle.encode.specs.Bounds.{rounded, plain_of, HasAtom, constant_compared, rounds_down, count_ops, count_bound, CountAnswers, linear_bound, LinearAnswers, BoundAnswers}
-use Rattle.encode.proofs.Quotients.{is_zero-false, divided-normal, times-divided, no_constant, itself}
-use Rattle.encode.proofs.TableLaws.{one_count-quotient}
+use Rattle.encode_laws.proofs.Quotients.{is_zero-false, divided-normal, times-divided, no_constant, itself}
+use Rattle.encode_laws.proofs.TableLaws.{one_count-quotient}
 
 -- ---- by the signs
 count_cases : (strict s : Bool) (c : ℕ) (a : Fraction) (ts : Terms) (b : Fraction)

@@ -1,26 +1,17 @@
 -- The numbers that a formula gives to atoms are those of the table of keys, whose atoms have no constant.
 use Rattle.std.proofs.Common.{◌≡◌, ℕ, zero, suc, Bool, true, false, cond, List, [], ◌∷◌, ◌++◌, map, length, Option, Some, None, is_some, refl, sym, ap, subst, ◌∙◌}
-use Rattle.std.specs.Prelude.{⊤, unwrap_or}
+use Rattle.std.specs.Prelude.{unwrap_or}
 use Rattle.std.specs.Option.{option_map}
 use Rattle.std.specs.List.{AllByRecursion}
-use Rattle.std.proofs.lemmas.Bool.{and_parts, and_from}
+use Rattle.std.proofs.lemmas.Bool.{and_parts}
 use lib.IntN.{pos}
 use Rattle.rational.specs.Fraction.{Fraction, whole}
 use Rattle.formula.specs.declared.atom.Atom.{Atom}
-use Rattle.formula.specs.Contents.{Contents}
-use Rattle.formula.specs.Equal.{same_fraction, same_atom, is_of_atom, boolean_of, with_atom}
-use Rattle.encode.specs.declared.clause.Truth.{Truth}
-use Rattle.encode.specs.declared.clause.Truth.TheVariants.{Of}
-use Rattle.encode.specs.Numbering.{Key, atom, truth, Plain, always, never, of, same_key, with_key, index_of, with_plain, atom_in}
-use Rattle.encode.specs.Clauses.{truth_by}
-use Rattle.encode.specs.Literals.{with_literal, numbered_in}
-use Rattle.encode.proofs.PlainLaws.{same_truth}
-use Rattle.encode.proofs.TableLaws.{same_atom-true, same_fraction-self, same_key-true, same_key-self}
-
--- an atom without a constant
-abbrev pub IsPlainKey : Key → Type 0
-IsPlainKey (atom a) = a.lin.constant ≡ whole (pos 0)
-IsPlainKey (truth n) = ⊤
+use Rattle.formula.specs.Equal.{same_fraction, same_atom, is_of_atom, boolean_of}
+use Rattle.encode_laws.specs.Numbering.{Key, atom, truth, same_key, with_key, index_of, atom_in}
+use Rattle.encode.specs.inside.Standing.{IsPlainKey}
+use Rattle.encode_laws.proofs.PlainLaws.{same_truth}
+use Rattle.encode_laws.proofs.TableLaws.{same_atom-true, same_fraction-self, same_key-self}
 
 same_constants : (x y : Fraction) → x ≡ whole (pos 0) → y ≡ whole (pos 0) → same_fraction x y ≡ true
 same_constants x y e f = subst (λ (z : Fraction). same_fraction x z ≡ true) (e ∙ sym f) (same_fraction-self x)
@@ -33,7 +24,7 @@ module _ (a : Atom) (z : a.lin.constant ≡ whole (pos 0)) where
       (λ e. let p = and_parts (same_fraction b.lin.constant a.lin.constant) _ e in
       subst (λ (c : Atom). same_atom a c ≡ true) (sym (same_atom-true b a p.0 p.1)) (and_parts (same_fraction a.lin.constant a.lin.constant) _ (same_key-self (atom a))).1)
 
-  index-found : (keys : List Key) → AllByRecursion IsPlainKey keys → unwrap_or (boolean_of a (map atom_in keys)) (length keys) ≡ index_of (atom a) keys
+  pub index-found : (keys : List Key) → AllByRecursion IsPlainKey keys → unwrap_or (boolean_of a (map atom_in keys)) (length keys) ≡ index_of (atom a) keys
   index-found [] h = refl
   index-found (k ∷ ks) h = by_test (is_of_atom a (atom_in k)) (same_key k (atom a)) (tests-agree k h.0) (index-found ks h.1)
     where
@@ -48,7 +39,7 @@ module _ (a : Atom) (z : a.lin.constant ≡ whole (pos 0)) where
       by_test false true e ih = absurd (cc)
       by_test false false e ih = later (boolean_of a (map atom_in ks)) (length ks) ∙ ap suc ih
 
-  atoms-found : (keys : List Key) → AllByRecursion IsPlainKey keys
+  pub atoms-found : (keys : List Key) → AllByRecursion IsPlainKey keys
       → map atom_in (with_key (atom a) keys) ≡ cond (is_some (boolean_of a (map atom_in keys))) (map atom_in keys) (map atom_in keys ++ Some a ∷ [])
   atoms-found [] h = refl
   atoms-found (k ∷ ks) h = by_test (is_of_atom a (atom_in k)) (same_key k (atom a)) (tests-agree k h.0) (atoms-found ks h.1)

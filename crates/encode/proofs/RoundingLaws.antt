@@ -12,8 +12,8 @@ use Rattle.rational.proofs.FloorLaws.{floor_below, floor-iff}
 use Rattle.frac128.specs.Bounds.{IsWithin, IsFrac}
 use Rattle.frac128.specs.Order.{IsFloor}
 use Rattle.encode.specs.Bounds.{compares}
-use Rattle.encode.proofs.RowLaws.{true-at_most, true-below}
-use Rattle.encode.proofs.Readings.{not_at_most, not_below}
+use Rattle.encode_laws.proofs.RowLaws.{true-at_most, true-below}
+use Rattle.encode_laws.proofs.Readings.{not_at_most, not_below}
 
 -- ---- the floor
 pub floor_is_found : (x : Fraction) (z : ℤ) → IsFloor x z → z ≡ floor_of x

@@ -11,9 +11,9 @@ use Rattle.lin.specs.declared.failure.LinFail.{LinFail}
 use Rattle.formula.specs.Atoms.{IsAtom}
 use Rattle.encode.specs.declared.bound.Bound.{Bound}
 use Rattle.encode.specs.declared.bound.Bound.TheVariants.{Always, Never, Of}
-use Rattle.encode.specs.Rows.{is_at_most, is_below}
-use Rattle.encode.specs.Numbering.{atom, Plain, always, never, of, constant_plain, is_positive, at_most_terms, below_terms}
-use Rattle.encode.specs.Refusals.{subtracting, rounding_ops, quotient_ops, bound_ops}
+use Rattle.encode_laws.specs.Rows.{is_at_most, is_below}
+use Rattle.encode_laws.specs.Numbering.{atom, Plain, always, never, of, constant_plain, is_positive, at_most_terms, below_terms}
+use Rattle.encode_laws.specs.Refusals.{subtracting, rounding_ops, quotient_ops, bound_ops}
 
 -- the bound of a count, rounded down or up
 abbrev pub rounded : Bool → Fraction → Fraction

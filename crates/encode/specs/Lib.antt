@@ -1,10 +1,4 @@
-pub mod Rows
-pub mod Operations
-pub mod Symbolic
-pub mod Numbering
-pub mod Encoding
-pub mod Refusals
 pub mod Bounds
 pub mod Literals
 pub mod Clauses
-pub mod Laws
+pub mod inside

@@ -7,8 +7,8 @@ use Rattle.formula.specs.Contents.{Contents}
 use Rattle.formula.specs.Equal.{boolean_of, with_atom}
 use Rattle.encode.specs.declared.clause.Truth.{Truth}
 use Rattle.encode.specs.declared.clause.Truth.TheVariants.{Yes, No, Of}
-use Rattle.encode.specs.Numbering.{atom, truth, Plain, always, never, of}
-use Rattle.encode.specs.Refusals.{bound_ops}
+use Rattle.encode_laws.specs.Numbering.{atom, truth, Plain, always, never, of}
+use Rattle.encode_laws.specs.Refusals.{bound_ops}
 use Rattle.encode.specs.Bounds.{compared}
 
 -- an atom is made where no equal one has a Boolean

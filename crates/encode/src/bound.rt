@@ -5,7 +5,7 @@ ghost use Rattle.lin.specs.Linear.{AreBelow, add, scale};
 ghost use Rattle.lin.specs.Operations.{AnswersInMemory};
 ghost use Rattle.lin.specs.Made.{add_ops, div_ops};
 ghost use Rattle.formula.specs.Atoms.{is_one_count};
-ghost use Rattle.encode.specs.Numbering.{is_positive};
+ghost use Rattle.encode_laws.specs.Numbering.{is_positive};
 ghost use Rattle.encode.specs.Bounds.{plain_of, compares, constant_compared, rounds_down, CountAnswers, LinearAnswers, BoundAnswers};
 
 use crate::rounding::rounded;

@@ -1,13 +1,15 @@
-//! The formula of n copies of a pattern: some point meets it exactly where a word of n copies is a valid plan. Its rows are in
-//! `specs/`, and `laws` says what they mean. The code makes what rows are made of: the bound that a comparison is
-//! (`bound_of`), its numbered literal (`literal_of`), and the clause of a row (`add_row`).
+//! The formula of n copies of a pattern, whose definition and laws are in `encode_laws`. The code makes what its rows are made of:
+//! the bound that a comparison is (`bound_of`), its numbered literal (`literal_of`), the clause of a row (`add_row`), and the rows
+//! of literals and of comparisons behind a literal.
 #![tactic(auto)]
 
 mod bound;
 mod clause;
-pub mod laws;
+mod comparison;
 mod literal;
 mod rounding;
+mod row;
+mod symbols;
 
 pub use bound::{Bound, bound_of};
 pub use clause::{Truth, add_row};

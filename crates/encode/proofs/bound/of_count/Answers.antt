@@ -4,7 +4,7 @@ use Rattle.rational.specs.Fraction.{Fraction, neg_ℚ, inv_ℚ, ◌*ℚ◌}
 use Rattle.frac128.specs.Operations.{Fits}
 use Rattle.frac128.specs.declared.operations.Op.TheVariants.{Div}
 use Rattle.lin.specs.Operations.{IsFirstPassing, dividing}
-use Rattle.encode.specs.Refusals.{rounding_ops}
+use Rattle.encode_laws.specs.Refusals.{rounding_ops}
 use Rattle.encode.specs.Bounds.{rounds_down}
 use Rattle.encode.proofs.Passing.{passes-first, passes-behind}
 use Rattle.encode.proofs.bound.of_count.Goals as goal

@@ -4,7 +4,7 @@ use lib.IntN.{pos}
 use Rattle.rational.specs.Fraction.{Fraction, whole}
 use Rattle.rational.specs.Floor.{ceil_of}
 use Rattle.lin.specs.Operations.{AllFit, IsFirstPassing, adding}
-use Rattle.encode.specs.Refusals.{subtracting}
+use Rattle.encode_laws.specs.Refusals.{subtracting}
 use Rattle.encode.proofs.Passing.{passes-before, passes-behind}
 use Rattle.encode.proofs.RoundingLaws.{one_less}
 use Rattle.encode.proofs.rounding.rounded_up.Goals as goal
