@@ -15,14 +15,16 @@ use Rattle.theory_law.specs.declared.trace.Trace.{Trace}
 use Rattle.formula.specs.Reading.{opposite}
 use Rattle.theory_law.specs.Seen.{Seen, IsAsserted, with_asserted}
 use Rattle.theory_law.specs.Verdicts.{MeetsAsserted, VerdictHolds, FailHolds, IsStuckAt}
-use Rattle.clause_core.specs.declared.trail.Entry.{Entry}
-use Rattle.clause_core.specs.Standing.{Stands, IsApart}
-use Rattle.clause_core.specs.Cored.{IsFull, IsPoint, IsComplete, IsQuiet, FalsifiesNone}
-use Rattle.clause_core.specs.Solving.{events, lits_of}
-use Rattle.clause_core.specs.Stepping.{AnswerHolds, IsStuck}
-use Rattle.clause_core.proofs.Gets.{get-within}
-use Rattle.clause_core.proofs.Rup.{not_opposite, same_stand}
-use Rattle.clause_core.proofs.Bridge.{lits_stand, stand_lits}
+use Rattle.clause_trail.specs.declared.trail.Entry.{Entry}
+use Rattle.clause_trail.specs.Standing.{Stands, IsApart}
+use Rattle.clause_trail.specs.Propagation.{IsComplete, IsQuiet, FalsifiesNone}
+use Rattle.clause_core.specs.inside.Asking.{IsPoint, AnswerHolds, IsFull}
+use Rattle.clause_core.specs.Solving.{events}
+use Rattle.clause_trail.specs.Decisions.{lits_of}
+use Rattle.clause_core.specs.Stepping.{IsStuck}
+use Rattle.clause_trail.proofs.Gets.{get-within}
+use Rattle.clause_trail.proofs.Lits.{not_opposite, same_stand}
+use Rattle.clause_trail.proofs.Bridge.{lits_stand, stand_lits}
 use Rattle.clause_core.proofs.Sanity.{asserted_in, asserted_stands}
 
 -- what is seen of a theory that was told these entries of a trail over a formula

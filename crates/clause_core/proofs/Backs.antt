@@ -1,47 +1,21 @@
 -- Prefixes of a trail, and what the theory is told.
-use Rattle.std.proofs.Common.{◌≡◌, ◌≢◌, ℕ, zero, suc, ◌<◌, ◌≤◌, ◌+◌, Bool, List, [], ◌∷◌, ◌++◌, length, take, Option, Some, None, get_or, refl, sym, ap, arith, inl, inr, subst, ◌∙◌, append_assoc, append-nil, length-append, zero-add, suc-add}
+use Rattle.std.proofs.Common.{◌≡◌, ◌≢◌, ℕ, zero, suc, ◌<◌, ◌≤◌, ◌+◌, Bool, List, [], ◌∷◌, ◌++◌, length, take, Option, Some, None, get_or, refl, sym, ap, arith, inl, inr, subst, ◌∙◌, append_assoc, append-nil, zero-add, suc-add}
 use Rattle.std.specs.List.{slice_get, Contains, All}
 use Rattle.std.proofs.lemmas.Option.{same_Some}
 use Rattle.std.proofs.lemmas.Bool.{cases_lt}
-use Rattle.std.proofs.lemmas.List.{take_at, take-take, length-take-le}
-use Rattle.std.proofs.lemmas.List.Elements.{Contains-append_right, Contains-append_cases, All-append, All-nil, All-cons, All-push, Contains-get_or}
+use Rattle.std.proofs.lemmas.List.{take-take, length-take-le}
+use Rattle.std.proofs.lemmas.List.Elements.{Contains-append_right, Contains-append_cases, All-append, All-nil, All-cons, All-push}
 use Rattle.formula.specs.declared.atom.Lit.{Lit}
 use Rattle.formula.specs.declared.atom.Atom.{Atom}
-use Rattle.formula.specs.Reading.{opposite}
 use Rattle.theory_law.specs.Seen.{IsAsserted, marks}
-use Rattle.clause_core.specs.declared.trail.Entry.{Entry}
-use Rattle.clause_core.specs.Standing.{IsJustified, IsApart}
-use Rattle.clause_core.specs.Analysis.{IsKept}
-use Rattle.std.specs.Result.{OnOk, OnErr}
-use Rattle.std.proofs.Common.{Ok, Err, Result}
-use Rattle.clause_core.specs.Cored.{IsComplete, IsQuiet, HasTwo}
-use Rattle.clause_core.specs.Solving.{IsSane, IsWithin, IsForced, IsPushed, IsTold, IsBelow, event_of, events, mark_of, put_of, atom_of, lits_of, HasDecisionAt, IsLastDecision}
-use Rattle.clause_core.proofs.Gets.{get-within, get-from, get-push_old}
-use Rattle.clause_core.proofs.Sanity.{events_push, events_grow, asserted_stands, pushed_none, pushed_push}
-
-pub get-take : {A : Type 0} (xs : List A) (n i : ℕ) (x : A) → slice_get (take n xs) i ≡ Some x → slice_get xs i ≡ Some x
-get-take xs zero i x h = absurd (cc)
-get-take [] (suc n) i x h = h
-get-take (y ∷ xs) (suc n) zero x h = h
-get-take (y ∷ xs) (suc n) (suc i) x h = get-take xs n i x h
-
-pub get-take_in : {A : Type 0} (xs : List A) (n i : ℕ) (x : A) → i < n → slice_get xs i ≡ Some x → slice_get (take n xs) i ≡ Some x
-get-take_in xs zero i x lt h = absurd (omega arith)
-get-take_in [] (suc n) i x lt h = h
-get-take_in (y ∷ xs) (suc n) zero x lt h = h
-get-take_in (y ∷ xs) (suc n) (suc i) x lt h = get-take_in xs n i x (omega arith) h
-
-pub take_pop : {A : Type 0} (init now after : List A) (e : A) → now ≡ take (length now) init → now ≡ after ++ e ∷ [] → after ≡ take (length after) init
-take_pop init now after e t p =
-    let a : take (length after) (after ++ e ∷ []) ≡ after = take_at after (e ∷ []) (length after) refl in
-    let le : length after ≤ length now = omega (arith, ap length p, length-append after (e ∷ [])) in
-    sym a ∙ ap (take (length after)) (sym p) ∙ ap (take (length after)) t ∙ take-take (length after) (length now) init le
-
-pub at_low : {A : Type 0} (xs : List A) (n i : ℕ) (x : A) → slice_get (take n xs) i ≡ Some x → i < n
-at_low xs zero i x h = absurd (cc)
-at_low [] (suc n) i x h = absurd (cc)
-at_low (y ∷ xs) (suc n) zero x h = omega arith
-at_low (y ∷ xs) (suc n) (suc i) x h = omega (arith, at_low xs n i x h)
+use Rattle.clause_trail.specs.declared.trail.Entry.{Entry}
+use Rattle.clause_trail.specs.Standing.{IsJustified, IsApart}
+use Rattle.clause_trail.specs.Propagation.{IsComplete, IsQuiet, HasTwo}
+use Rattle.clause_core.specs.Solving.{IsSane, IsTold, event_of, events, mark_of, put_of, atom_of}
+use Rattle.clause_trail.specs.Decisions.{IsWithin, IsBelow, lits_of, HasDecisionAt, IsLastDecision}
+use Rattle.clause_trail.proofs.Gets.{get-within, get-from, get-push_old}
+use Rattle.clause_core.proofs.Sanity.{events_push, events_grow, asserted_stands}
+use Rattle.clause_trail.proofs.Fronts.{get-take, get-take_in, at_low, take_more}
 
 pub justified_take : (clauses : List (List Lit)) (entries : List Entry) (n : ℕ) → IsJustified clauses entries → IsJustified clauses (take n entries)
 justified_take clauses entries n j i l k at =
@@ -103,11 +77,6 @@ level_at atoms asserted entries d synced last =
 pub level_marked : {atoms : List (Option Atom)} {asserted : List (Option Lit)} {entries : List Entry} {d : ℕ} → IsLevel atoms asserted entries d → Contains asserted None
 level_marked {atoms = atoms} {entries = entries} {d = d} l = subst (λ (x : List (Option Lit)). Contains x None) (sym l.is) (Contains-append_right (events atoms (take d entries)) (None ∷ l.after) None (0, omega arith, refl))
 
-pub take_more : {A : Type 0} (xs : List A) (n : ℕ) (x : A) → slice_get xs n ≡ Some x → take (n + 1) xs ≡ take n xs ++ x ∷ []
-take_more [] n x h = absurd (cc)
-take_more {A = A} (y ∷ xs) zero x h = ap (λ (z : A). z ∷ []) (same_Some _ _ h)
-take_more {A = A} (y ∷ xs) (suc n) x h = rw suc-add (ap (λ (l : List A). y ∷ l) (take_more xs n x h))
-
 pub told_more : {atoms : List (Option Atom)} {asserted asserted' : List (Option Lit)} {told : ℕ} {entries : List Entry} → IsTold atoms asserted told entries → (e : Entry) → slice_get entries told ≡ Some e → asserted' ≡ asserted ++ event_of atoms e → IsTold atoms asserted' (told + 1) entries
 told_more {atoms = atoms} {told = told} {entries = entries} h e at is = record {
   synced = is ∙ ap (λ (x : List (Option Lit)). x ++ event_of atoms e) h.synced ∙ sym (events_push atoms (take told entries) e) ∙ ap (events atoms) (sym (take_more entries told e at));
@@ -154,11 +123,6 @@ told_all {atoms = atoms} {asserted = asserted} {entries = entries} h n e = subst
 pub entry_at : (entries es : List Entry) (i : ℕ) (first : Entry) → es ≡ entries → i < length es → slice_get entries i ≡ Some (get_or es i first)
 entry_at entries es i first e lt = ap (λ (x : List Entry). slice_get x i) (sym e) ∙ get-from es i first _ lt refl
 
-pub kept_within : (n : ℕ) (entries : List Entry) (marked resolved : List Bool) (clause : List Lit) → IsBelow n entries → IsKept entries marked resolved clause → All (λ m. m.boolean < n) clause
-kept_within n entries marked resolved clause b h k d lt =
-    let r = h.sound (get_or clause k d) (Contains-get_or clause k d lt) in
-    b r.0 (opposite (get_or clause k d)) r.1
-
 pub sane_take : {clauses : List (List Lit)} {atoms : List (Option Atom)} {entries : List Entry} → IsSane clauses atoms entries → (n : ℕ) → IsSane clauses atoms (take n entries)
 sane_take {clauses = clauses} {atoms = atoms} {entries = entries} s n = record {
   justified = justified_take clauses entries n s.justified;
@@ -197,10 +161,6 @@ sane_clause {clauses = clauses} {atoms = atoms} {entries = entries} s c w two = 
   below = s.below;
   complete = λ d at. All-push (IsQuiet (lits_of (take d entries))) clauses c (s.complete d at) (inr (two d at));
 }
-
-pub pushed_result : {E : Type 0} (r : Result (Unit {0}) E) {clauses : List (List Lit)} {n : ℕ} {before after : List Entry} (e : Entry) → OnOk r (after ≡ before ++ e ∷ []) → OnErr r (after ≡ before) → IsForced clauses n before e → IsPushed clauses n before after
-pushed_result (Ok done) {before = before} e ok err f = pushed_push (pushed_none before) e ok f
-pushed_result (Err x) {clauses = clauses} {n = n} {before = before} e ok err f = subst (λ (x : List Entry). IsPushed clauses n before x) (sym err) (pushed_none before)
 
 pub last_low : (entries : List Entry) (p keep : ℕ) → IsLastDecision entries p → p < keep → (d : ℕ) → HasDecisionAt entries d → d < keep
 last_low entries p keep last lt d at = elim (cases_lt p d) as (λ _. d < keep) [ inl later ↦ absurd (last.1 d later at) | inr le ↦ omega arith ]

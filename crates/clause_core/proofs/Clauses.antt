@@ -6,8 +6,8 @@ use Rattle.std.proofs.lemmas.Bool.Decides.{nat_tests}
 use Rattle.std.proofs.lemmas.List.Elements.{All-nil, All-cons, All-head, All-tail}
 use Rattle.formula.specs.declared.atom.Lit.{Lit}
 use Rattle.formula.specs.Contents.{is_clause, is_clause_from}
-use Rattle.clause_core.specs.Learning.{IsRising}
-use Rattle.clause_core.specs.Solving.{IsWithin}
+use Rattle.clause_learn.specs.Learning.{IsRising}
+use Rattle.clause_trail.specs.Decisions.{IsWithin}
 
 is_less : (m n : ℕ) → nat_lt m n ≡ true → m < n
 is_less m n e = grind (arith, nat_tests)

@@ -6,11 +6,13 @@ use Rattle.formula.specs.declared.atom.Lit.{Lit}
 use Rattle.formula.specs.declared.atom.Atom.{Atom}
 use Rattle.formula.specs.Contents.{Contents, IsFormula, with_clause, with_boolean}
 use Rattle.theory_law.specs.Seen.{Seen, at_start, with_asserted, with_atom}
-use Rattle.clause_core.specs.declared.trail.Entry.{Entry}
-use Rattle.clause_core.specs.Standing.{Trailed}
-use Rattle.clause_core.specs.Cored.{IsComplete, HasTwo}
-use Rattle.clause_core.specs.Solving.{IsCore, IsSane, IsTold, IsWithin, IsPushed, HasDecisionAt, events, lits_of}
-use Rattle.clause_core.proofs.Gets.{get-within}
+use Rattle.clause_trail.specs.declared.trail.Entry.{Entry}
+use Rattle.clause_trail.specs.Standing.{Trailed}
+use Rattle.clause_trail.specs.Propagation.{IsComplete, HasTwo}
+use Rattle.clause_core.specs.Solving.{IsCore, IsSane, IsTold, events}
+use Rattle.clause_trail.specs.Decisions.{IsWithin, HasDecisionAt, lits_of}
+use Rattle.clause_trail.specs.Pushing.{IsPushed}
+use Rattle.clause_trail.proofs.Gets.{get-within}
 use Rattle.clause_core.proofs.Clauses.{within_clauses}
 use Rattle.clause_core.proofs.Sanity.{sane_push, sane_pushed, told_pushed}
 use Rattle.clause_core.proofs.Backs.{sane_clause, told_grow}
@@ -32,18 +34,6 @@ core_start f s t h e none n =
       same_counts = ap (λ (x : Seen). x.counts) e;
       same_atoms = ap (λ (x : Seen). x.atoms) e;
       booleans = n;
-    }
-
--- the trail was propagated
-pub core_pushed : {f : Contents} {s : Seen} {told : ℕ} {t u : Trailed} → IsCore f s told t → (n : ℕ) → n ≡ t.booleans → u.booleans ≡ t.booleans → IsPushed f.clauses n t.entries u.entries → IsCore f s told u
-core_pushed {f = f} {t = t} {u = u} h n e b p =
-    let q = subst (λ (m : ℕ). IsPushed f.clauses m t.entries u.entries) (e ∙ h.booleans) p in
-    record {
-      sane = sane_pushed h.sane q;
-      in_step = told_pushed p.added h.in_step p.is;
-      same_counts = h.same_counts;
-      same_atoms = h.same_atoms;
-      booleans = b ∙ h.booleans;
     }
 
 -- a decision was made, or memory is wanting
@@ -101,6 +91,18 @@ added {f = f} t u v h short kept c within two vb nb pushed =
       same_counts = h.same_counts;
       same_atoms = h.same_atoms;
       booleans = vb ∙ h.booleans;
+    }
+
+-- the trail was propagated
+pub core_pushed : {f : Contents} {s : Seen} {told : ℕ} {t u : Trailed} → IsCore f s told t → (n : ℕ) → n ≡ t.booleans → u.booleans ≡ t.booleans → IsPushed f.clauses n t.entries u.entries → IsCore f s told u
+core_pushed {f = f} {t = t} {u = u} h n e b p =
+    let q = subst (λ (m : ℕ). IsPushed f.clauses m t.entries u.entries) (e ∙ h.booleans) p in
+    record {
+      sane = sane_pushed h.sane q;
+      in_step = told_pushed p.added h.in_step p.is;
+      same_counts = h.same_counts;
+      same_atoms = h.same_atoms;
+      booleans = b ∙ h.booleans;
     }
 
 -- a clause was added, and what it forces was made true

@@ -3,13 +3,13 @@ use Rattle.std.proofs.Common.{◌≡◌, ℕ, ◌<◌, List, take, refl, sym, ap
 use Rattle.std.specs.List.{Contains}
 use Rattle.formula.specs.declared.atom.Lit.{Lit}
 use Rattle.formula.specs.Reading.{opposite}
-use Rattle.clause_core.specs.declared.trail.Entry.{Entry}
-use Rattle.clause_core.specs.Standing.{IsApart}
-use Rattle.clause_core.specs.Cored.{IsOpen, HasTwo}
-use Rattle.clause_core.specs.Solving.{lits_of}
-use Rattle.clause_core.specs.Levels.{IsAfter}
-use Rattle.clause_core.proofs.Bridge.{stand_lits}
-use Rattle.clause_core.proofs.Backs.{get-take, at_low}
+use Rattle.clause_trail.specs.declared.trail.Entry.{Entry}
+use Rattle.clause_trail.specs.Standing.{IsApart}
+use Rattle.clause_trail.specs.Propagation.{IsOpen, HasTwo}
+use Rattle.clause_trail.specs.Decisions.{lits_of}
+use Rattle.clause_core.specs.inside.Levels.{IsAfter}
+use Rattle.clause_trail.proofs.Bridge.{stand_lits}
+use Rattle.clause_trail.proofs.Fronts.{get-take, at_low}
 
 late_stand : {entries : List Entry} {clause : List Lit} {n : ℕ} → IsApart entries → (a : IsAfter entries clause n) → (d : ℕ) → d < n → (l : Lit) → l.boolean ≡ a.lit.boolean → Contains (lits_of (take d entries)) l → ⊥
 late_stand {entries = entries} apart a d lt l same c =

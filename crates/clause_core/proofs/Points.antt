@@ -3,27 +3,28 @@ use Rattle.std.proofs.Common.{◌≡◌, ℕ, ◌<◌, Bool, true, false, not, L
 use Rattle.std.specs.List.{slice_get, Contains, All}
 use Rattle.std.proofs.lemmas.Option.{same_Some, get_or_from_slice_get}
 use Rattle.std.proofs.lemmas.List.Elements.{All-contains}
+use Rattle.std.specs.Option.{IsSome}
 use Rattle.formula.specs.declared.atom.Lit.{Lit}
 use Rattle.formula.specs.declared.atom.Atom.{Atom}
 use Rattle.formula.specs.declared.point.Point.{Point}
 use Rattle.formula.specs.Contents.{Contents}
 use Rattle.rational.specs.Fraction.{Fraction}
-use Rattle.std.specs.Option.{IsSome}
 use Rattle.lin.specs.Linear.{point_of}
 use Rattle.formula.specs.Reading.{opposite, Holds, reading, reading_where, atom_of}
 use Rattle.formula.specs.Meets.{is_true, truth_at, constraint_at, HoldsAt, Meets}
 use Rattle.formula.proofs.Truths.{met_iff}
 use Rattle.formula.proofs.MeetingSteps.{nothing_holds}
 use Rattle.theory_law.specs.Readings.{Reads, BooleanReads, IsExact}
-use Rattle.clause_core.specs.declared.trail.Entry.{Entry}
-use Rattle.clause_core.specs.Standing.{Stands}
-use Rattle.clause_core.specs.Cored.{Cored, IsComplete, IsQuiet, IsFull, IsPoint}
-use Rattle.clause_core.specs.Solving.{lits_of, IsWithin}
-use Rattle.clause_core.specs.Stepping.{AtPoint}
-use Rattle.clause_core.specs.Searching.{IsDone}
-use Rattle.clause_core.proofs.Gets.{get-at}
-use Rattle.clause_core.proofs.Rup.{lit_same}
-use Rattle.clause_core.proofs.Bridge.{stand_lits}
+use Rattle.clause_trail.specs.declared.trail.Entry.{Entry}
+use Rattle.clause_trail.specs.Standing.{Stands}
+use Rattle.clause_core.specs.Cored.{Cored}
+use Rattle.clause_trail.specs.Propagation.{IsComplete, IsQuiet}
+use Rattle.clause_core.specs.inside.Asking.{IsPoint, AtPoint, IsFull}
+use Rattle.clause_trail.specs.Decisions.{lits_of, IsWithin}
+use Rattle.clause_core.specs.inside.Searching.{IsDone}
+use Rattle.clause_trail.proofs.Gets.{get-at}
+use Rattle.clause_trail.proofs.Lits.{lit_same}
+use Rattle.clause_trail.proofs.Bridge.{stand_lits}
 
 bool_cases : (a b : Bool) → (a ≡ b) ⊎ (a ≡ not b)
 bool_cases true true = inl refl

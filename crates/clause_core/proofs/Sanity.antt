@@ -1,24 +1,21 @@
 -- What stays sane.
 use Rattle.std.proofs.Common.{◌≡◌, ℕ, zero, suc, ◌<◌, Bool, true, false, not, List, [], ◌∷◌, ◌++◌, take, length, Option, Some, None, refl, sym, ap, arith, inl, inr, subst, ◌∙◌, append-nil, append_assoc, length-append}
-use Rattle.std.specs.List.{slice_get, Contains, All}
+use Rattle.std.specs.List.{slice_get, Contains}
 use Rattle.std.specs.Option.{is_some, MatchOption}
-use Rattle.std.proofs.lemmas.Option.{same_Some, get_or_from_slice_get}
+use Rattle.std.proofs.lemmas.Option.{same_Some}
 use Rattle.std.proofs.lemmas.List.{take-append-le, take_all}
-use Rattle.std.proofs.lemmas.List.Elements.{Contains-append_left, Contains-append_right, Contains-append_cases, All-contains}
+use Rattle.std.proofs.lemmas.List.Elements.{Contains-append_left, Contains-append_right, Contains-append_cases}
 use Rattle.formula.specs.declared.atom.Lit.{Lit}
 use Rattle.formula.specs.declared.atom.Atom.{Atom}
 use Rattle.theory_law.specs.Seen.{IsAsserted}
-use Rattle.clause_core.specs.declared.trail.Entry.{Entry}
-use Rattle.clause_core.specs.Standing.{Stands, Forces, IsJustified, IsFree}
-use Rattle.clause_core.specs.Cored.{IsComplete}
-use Rattle.clause_core.specs.Solving.{IsSane, IsTold, IsBelow, IsWithin, IsComplete_before, IsForced, Pushes, IsPushed, event_of, events, mark_of, put_of, atom_of, lits_of}
-use Rattle.clause_core.proofs.Gets.{get-push_old, get-push_cases, get-within}
-
-pub stands_push : (entries rest : List Entry) (p : ℕ) (l : Lit) → Stands entries p l → Stands (entries ++ rest) p l
-stands_push entries rest p l s = (s.0, get-push_old entries rest p _ s.1)
-
-pub forces_push : {entries : List Entry} {n : ℕ} {c : List Lit} {l : Lit} (rest : List Entry) → Forces entries n c l → Forces (entries ++ rest) n c l
-forces_push {entries = entries} rest f = record { within = f.within; others = λ m in' ne. let b = f.others m in' ne in (b.0, b.1, stands_push entries rest b.0 _ b.2) }
+use Rattle.clause_trail.specs.declared.trail.Entry.{Entry}
+use Rattle.clause_trail.specs.Standing.{Stands, Forces, IsJustified}
+use Rattle.clause_trail.specs.Propagation.{IsComplete}
+use Rattle.clause_core.specs.Solving.{IsSane, IsTold, event_of, events, mark_of, put_of, atom_of}
+use Rattle.clause_trail.specs.Decisions.{IsBelow, IsComplete_before, lits_of}
+use Rattle.clause_trail.specs.Pushing.{IsForced, Pushes, IsPushed}
+use Rattle.clause_trail.proofs.Gets.{get-push_cases, get-within}
+use Rattle.clause_trail.proofs.Lits.{forces_push}
 
 pub justified_push : (clauses : List (List Lit)) (entries : List Entry) (e : Entry) → IsJustified clauses entries → ((k : ℕ) → e.reason ≡ Some k → (c : List Lit) × (slice_get clauses k ≡ Some c) × Forces entries (length entries) c e.lit) → IsJustified clauses (entries ++ e ∷ [])
 justified_push clauses entries e j r i l k at = elim (get-push_cases entries e i _ at) [
@@ -128,34 +125,6 @@ pub told_pushed : {atoms : List (Option Atom)} {asserted : List (Option Lit)} {t
 told_pushed {atoms = atoms} {asserted = asserted} {told = told} {before = before} added t e = record {
   synced = t.synced ∙ ap (events atoms) (sym (take-append-le told before added t.within) ∙ ap (take told) (sym e));
   within = omega (arith, t.within, ap length e, length-append before added);
-}
-
-pub pushed_none : {clauses : List (List Lit)} {n : ℕ} (entries : List Entry) → IsPushed clauses n entries entries
-pushed_none entries = record { added = []; is = sym (append-nil entries); pushes = tt }
-
-pushes_push : {clauses : List (List Lit)} {n : ℕ} (before added : List Entry) (e : Entry) → Pushes clauses n before added → IsForced clauses n (before ++ added) e → Pushes clauses n before (added ++ e ∷ [])
-pushes_push {clauses = clauses} {n = n} before [] e h f = (subst (λ (x : List Entry). IsForced clauses n x e) (append-nil before) f, tt)
-pushes_push {clauses = clauses} {n = n} before (x ∷ added) e h f = (h.0, pushes_push (before ++ x ∷ []) added e h.1 (subst (λ (y : List Entry). IsForced clauses n y e) (sym (append_assoc before (x ∷ []) added)) f))
-
-pub pushed_push : {clauses : List (List Lit)} {n : ℕ} {before now after : List Entry} → IsPushed clauses n before now → (e : Entry) → after ≡ now ++ e ∷ [] → IsForced clauses n now e → IsPushed clauses n before after
-pushed_push {clauses = clauses} {n = n} {before = before} h e is f = record {
-  added = h.added ++ e ∷ [];
-  is = is ∙ ap (λ (x : List Entry). x ++ e ∷ []) h.is ∙ append_assoc before h.added (e ∷ []);
-  pushes = pushes_push before h.added e h.pushes (subst (λ (x : List Entry). IsForced clauses n x e) h.is f);
-}
-
-All-at : {A : Type 0} (xs : List A) (k : ℕ) (x : A) (P : A → Type 0) → All P xs → slice_get xs k ≡ Some x → P x
-All-at xs k x P h at = subst P (get_or_from_slice_get xs k x x at) (h k x (get-within xs k x at))
-
-pub forced_next : (clauses : List (List Lit)) (n : ℕ) (entries : List Entry) (k : ℕ) (l : Lit) → All (IsWithin n) clauses → (c : List Lit) → slice_get clauses k ≡ Some c → Forces entries (length entries) c l → IsFree entries l.boolean → IsForced clauses n entries (record { lit = l; reason = Some k })
-forced_next clauses n entries k l w c at f free = record {
-  reason = k;
-  clause = c;
-  has = refl;
-  at = at;
-  forces = f;
-  unassigned = free;
-  low = All-contains (λ (m : Lit). m.boolean < n) c l (All-at clauses k c (IsWithin n) w at) f.within;
 }
 
 pub none_true : {A : Type 0} (o : Option A) (b : Bool) → is_some o ≡ not b → o ≡ None → b ≡ true

@@ -5,10 +5,10 @@ use Rattle.std.proofs.lemmas.List.{take_all}
 use Rattle.formula.specs.declared.atom.Lit.{Lit}
 use Rattle.formula.specs.declared.atom.Atom.{Atom}
 use Rattle.theory_law.specs.Seen.{Seen, with_asserted, with_events}
-use Rattle.clause_core.specs.declared.trail.Entry.{Entry}
+use Rattle.clause_trail.specs.declared.trail.Entry.{Entry}
 use Rattle.clause_core.specs.Solving.{IsTold, mark_of, put_of, atom_of, events}
 use Rattle.clause_core.proofs.Sanity.{events_push}
-use Rattle.clause_core.proofs.Backs.{take_more}
+use Rattle.clause_trail.proofs.Fronts.{take_more}
 
 -- told the first i entries
 pub told_first : (s s0 : Seen) (atoms : List (Option Atom)) (entries : List Entry) (i : ℕ) → s ≡ with_asserted s0 (events atoms (take i entries)) → i < length entries → IsTold atoms s.asserted i entries

@@ -1,12 +1,5 @@
 pub mod Cored
-pub mod Standing
-pub mod Learning
-pub mod Analysis
-pub mod Scanning
+pub mod Solved
 pub mod Solving
 pub mod Stepping
-pub mod Levels
-pub mod Searching
-pub mod Solved
-pub mod Handing
-pub mod Licence
+pub mod inside

@@ -1,12 +1,9 @@
 -- What the whole search answers.
 use Rattle.std.specs.Prelude.{◌≡◌, ℕ, ◌<◌, ◌≤◌, Bool, List, ◌++◌, Option, Ok, Err, Result, length}
 use Rattle.std.specs.List.{AllByRecursion}
-use Rattle.rational.specs.Fraction.{Fraction}
 use Rattle.formula.specs.declared.atom.Lit.{Lit}
 use Rattle.formula.specs.declared.atom.Atom.{Atom}
 use Rattle.formula.specs.Contents.{Contents}
-use Rattle.theory_law.specs.declared.verdict.TheoryFail.{TheoryFail}
-use Rattle.theory_law.specs.declared.verdict.TheoryFail.TheVariants as theory
 use Rattle.theory_law.specs.declared.trace.Trace.{Trace}
 use Rattle.theory_law.specs.declared.trace.Site.TheVariants.{Pivots as PivotsSite}
 use Rattle.theory_law.specs.declared.log.LogStep.{LogStep}
@@ -15,18 +12,11 @@ use Rattle.theory_law.specs.Readings.{IsExact}
 use Rattle.theory_law.specs.Log.{IsSoundLog, HasEmpty, after_log}
 use Rattle.theory_law.specs.Licence.{IsLicensedLog}
 use Rattle.theory_law.specs.Sinks.{Rose}
-use Rattle.clause_core.specs.declared.solving.Next.{Next}
-use Rattle.clause_core.specs.declared.solving.Next.TheVariants.{Step, Point}
 use Rattle.clause_core.specs.declared.solving.Outcome.{Outcome}
 use Rattle.clause_core.specs.declared.solving.Outcome.TheVariants.{Found, Empty}
 use Rattle.clause_core.specs.declared.solving.CoreFail.{CoreFail}
 use Rattle.clause_core.specs.declared.solving.CoreFail.TheVariants.{Steps, Wide, Pivots, Sink, Memory}
-use Rattle.clause_core.specs.Stepping.{StepHolds, IsOfCut, IsStuck, SplitsOnlyIf}
-
--- what comes next
-abbrev pub NextHolds : {W : Type 0} → (List Bool → List (Option Atom) → List Lit → W → Type 0) → Bool → Contents → Option (ℕ × Fraction) → Next W → Type 0
-NextHolds Shown cuts f cut (Step s) = StepHolds Shown cuts f s × IsOfCut cut s
-NextHolds Shown cuts f cut (Point p) = IsSolution f p × IsExact f p
+use Rattle.clause_core.specs.Stepping.{StepHolds, IsStuck, SplitsOnlyIf}
 
 -- a log over the formula: each step is sound and licensed against what stands before it, and there are splits only where the
 -- theory cuts
@@ -72,8 +62,3 @@ pub record IsSolved {W : Type 0} (Shown : List Bool → List (Option Atom) → L
   pub short : length log ≤ steps
   pub sink : SinkHolds (IsHandedOver Before Now log) (IsStopped Shown cuts f Before Stopped was is log) result
   pub answer : ResultHolds Stuck pivots (after_log f log) (length log) steps result
-
-abbrev pub core_fail : TheoryFail → CoreFail
-core_fail (theory.Wide t) = Wide t
-core_fail (theory.Pivots t) = Pivots t
-core_fail theory.Memory = Memory

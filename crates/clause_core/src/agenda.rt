@@ -1,6 +1,7 @@
 //! What the search tries first: for each Boolean an activity, which its conflicts raise, and the truth that it had last. It
 //! bears on how long a search takes and on nothing that is promised of it.
-use crate::trail::Entry;
+
+use clause_trail::Entry;
 use formula::{Atom, Clause, Formula, Lit};
 use std::alloc::{AllocError, Global};
 

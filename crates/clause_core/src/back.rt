@@ -1,48 +1,19 @@
 //! Going back over the trail. Begin with `add`, which adds a clause and goes back to the level where it forces a literal;
 //! `restart` goes back to the start. The theory takes back what it was told since.
-ghost use Rattle.std.specs.Prelude.{◌≡◌, ◌≢◌, ◌<◌, ◌≤◌, ◌+◌, ◌++◌, ◌∷◌, [], ℕ, List, Bool, true, false, length, take, IfSome, MatchOption, OnOk, slice_get, Some, None};
-ghost use Rattle.std.specs.List.{All};
+ghost use Rattle.std.specs.Prelude.{◌≡◌, ◌<◌, ◌+◌, ℕ, true, length, take, IfSome, OnOk, Some, None};
 ghost use Rattle.formula.specs.declared.atom.Lit.{Lit};
 ghost use Rattle.formula.specs.Contents.{is_clause, with_clause};
 ghost use Rattle.theory_law.specs.Seen.{with_asserted};
-ghost use Rattle.clause_core.specs.Cored.{HasTwo};
-ghost use Rattle.clause_core.specs.Levels.{IsSettled};
-ghost use Rattle.clause_core.specs.Solving.{IsSane, IsTold, IsWithin, IsPushed, IsLastDecision, HasDecisionAt, lits_of};
+ghost use Rattle.clause_trail.specs.Propagation.{HasTwo};
+ghost use Rattle.clause_core.specs.inside.Levels.{IsSettled};
+ghost use Rattle.clause_core.specs.Solving.{IsSane, IsTold};
+ghost use Rattle.clause_trail.specs.Decisions.{HasDecisionAt, lits_of};
 
 use crate::Core;
-use crate::analyze::{differs, first_decision, lits_at};
-use crate::scan::{Scanned, scan};
-use crate::trail::{Entry, Trail};
+use clause_trail::{Trail, assert_clause, cut, differs, first_decision, last_decision};
 use formula::{Clause, Formula, Lit};
 use std::alloc::AllocError;
 use theory_law::Theory;
-
-/// The place of the last decision.
-pub fn last_decision(entries: &[Entry]) -> Option<usize>
-    ensures { MatchOption result ((i : ℕ) → HasDecisionAt entries.now i → ⊥) (IsLastDecision entries.now) }
-{
-    let mut last = None;
-    for (i, entry) in entries.iter().enumerate() {
-        match entry.reason {
-            None => last = Some(i),
-            Some(_) => {}
-        }
-    }
-    last
-}
-
-/// Cuts the trail down to this length.
-fn cut(trail: &mut Trail, n: usize)
-    requires { n ≤ length trail.old.entries }
-    ensures entries { trail.new.entries ≡ take n trail.old.entries }
-    ensures booleans { trail.new.booleans ≡ trail.old.booleans }
-{
-    while trail.entries().len() > n {
-        let Some(_entry) = trail.pop() else {
-            return;
-        };
-    }
-}
 
 /// Takes back each decision that stands at or after the place. The number of entries that the theory is still told.
 fn back_to<T: Theory>(
@@ -94,22 +65,6 @@ fn level_of(trail: &Trail, clause: &[Lit]) -> usize
         }
     }
     keep
-}
-
-/// Makes true what the clause of this number forces.
-fn assert_clause(trail: &mut Trail, clauses: &[Clause], number: usize) -> Result<(), AllocError>
-    requires number { number < length clauses.now }
-    requires within { All (IsWithin trail.old.booleans) clauses.now }
-    ensures booleans { trail.new.booleans ≡ trail.old.booleans }
-    ensures pushed { IsPushed clauses.now trail.old.booleans trail.old.entries trail.new.entries }
-{
-    match scan(trail, lits_at(clauses, number)) {
-        Scanned::Unit(lit) => trail.push(Entry {
-            lit,
-            reason: Some(number),
-        }),
-        _ => Ok(()),
-    }
 }
 
 /// The place of the clause's one literal, where it is true before each decision.

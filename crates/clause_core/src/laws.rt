@@ -1,37 +1,16 @@
-//! Propagation.
-ghost use Rattle.std.specs.Prelude.{◌≡◌, ◌⊎◌, ℕ, length, IfOk, MatchOption};
-ghost use Rattle.std.specs.List.{All};
-ghost use Rattle.formula.specs.declared.atom.Lit.{Lit};
-ghost use Rattle.clause_core.specs.Analysis.{IsConflict};
-ghost use Rattle.clause_core.specs.Scanning.{IsSatisfied, HasTwoFree};
-ghost use Rattle.clause_core.specs.Solving.{IsWithin, IsPushed};
-ghost use Rattle.clause_core.specs.Cored.{IsGrown, IsComplete, IsFalseAt};
+//! Propagation, and what a point of a formula with a log is to the formula.
+ghost use Rattle.std.specs.Prelude.{◌≡◌, List, IfOk, MatchOption};
+ghost use Rattle.formula.specs.declared.point.Point.{Point};
+ghost use Rattle.formula.specs.Contents.{Contents};
+ghost use Rattle.formula.specs.Meets.{IsSolution};
+ghost use Rattle.theory_law.specs.declared.log.LogStep.{LogStep};
+ghost use Rattle.theory_law.specs.Log.{after_log};
+ghost use Rattle.clause_trail.specs.Propagation.{IsGrown, IsComplete, IsFalseAt};
 
 use crate::Core;
-use crate::scan::{Next, first_open};
-use crate::trail::{Entry, Trail};
-use formula::Clause;
+use clause_trail::units;
 use std::alloc::AllocError;
 use theory_law::Theory;
-
-/// Makes true what a clause forces, until a clause is false or none forces anything.
-fn units(trail: &mut Trail, clauses: &[Clause]) -> Result<Option<u64>, AllocError>
-    requires { All (IsWithin trail.old.booleans) clauses.now }
-    ensures booleans { trail.new.booleans ≡ trail.old.booleans }
-    ensures pushed { IsPushed clauses.now trail.old.booleans trail.old.entries trail.new.entries }
-    ensures quiet { IfOk result (λ r. MatchOption r (All (λ c. IsSatisfied trail.new.entries c ⊎ HasTwoFree trail.new.entries c) clauses.now) (IsConflict clauses.now trail.new.entries)) }
-{
-    'units: loop {
-        match first_open(trail, clauses) {
-            Next::Done => return Ok(None),
-            Next::Conflict(k) => return Ok(Some(k as u64)),
-            Next::Unit(k, lit) => trail.push(Entry {
-                lit,
-                reason: Some(k),
-            })?,
-        }
-    }
-}
 
 /// Makes true what a clause forces. The number of a clause with only false literals, where there is one.
 pub fn propagate<T: Theory>(core: &mut Core<T>) -> Result<Option<u64>, AllocError>
@@ -42,3 +21,8 @@ pub fn propagate<T: Theory>(core: &mut Core<T>) -> Result<Option<u64>, AllocErro
 {
     units(&mut core.trail, core.formula.clauses())
 }
+
+/// A point that meets a formula with a log behind it meets the formula.
+pub fn point_of_a_log_meets_the_formula<W>()
+    ensures { (f : Contents) (log : List (LogStep W)) (p : Point) → IsSolution (after_log f log) p → IsSolution f p }
+{}

@@ -1,24 +1,26 @@
 //! The search between two steps of the log. Begin with `round`: it propagates, asks the theory and decides. `search`
 //! goes on until there is something to log or every Boolean is assigned. `choose` says which Boolean is decided, and with which truth.
-ghost use Rattle.std.specs.Prelude.{◌≡◌, ◌≢◌, ◌<◌, ◌≤◌, ◌+◌, ◌++◌, ◌∷◌, ◌⊎◌, [], ℕ, List, Bool, true, false, length, OnOk, IfOk, IfErr, IfSome, IsSome, MatchOption, slice_get, Some, None};
-ghost use Rattle.std.specs.List.{All, Contains};
+ghost use Rattle.std.specs.Prelude.{◌≡◌, ◌<◌, ◌≤◌, ◌+◌, ◌++◌, ◌∷◌, ◌⊎◌, [], ℕ, List, true, false, length, OnOk, IfOk, IfErr, IsSome, MatchOption, slice_get, Some, None};
+ghost use Rattle.std.specs.List.{Contains};
 ghost use Rattle.rational.specs.Fraction.{Fraction};
 ghost use Rattle.formula.specs.declared.atom.Lit.{Lit};
 ghost use Rattle.theory_law.specs.Log.{HasEmpty};
 ghost use Rattle.formula.specs.Meets.{Meets};
 ghost use Rattle.theory_law.specs.Readings.{IsExact};
 ghost use Rattle.theory_law.specs.Verdicts.{FailHolds};
-ghost use Rattle.clause_core.specs.Standing.{Stands, IsFree};
-ghost use Rattle.clause_core.specs.Cored.{IsComplete, IsFalseAt, IsFull, IsPoint};
-ghost use Rattle.clause_core.specs.Stepping.{StepHolds, IsOfCut, IsStuck};
-ghost use Rattle.clause_core.specs.Searching.{EventHolds, IsDone, IsLonger};
+ghost use Rattle.clause_trail.specs.Standing.{Stands, IsFree};
+ghost use Rattle.clause_trail.specs.Propagation.{IsComplete, IsFalseAt};
+ghost use Rattle.clause_core.specs.inside.Asking.{IsFull};
+ghost use Rattle.clause_core.specs.Stepping.{StepHolds, IsStuck};
+ghost use Rattle.clause_core.specs.inside.Taking.{IsOfCut};
+ghost use Rattle.clause_core.specs.inside.Searching.{EventHolds, IsDone, IsLonger};
 
 use crate::Core;
 use crate::agenda::Agenda;
-use crate::analyze::learn;
 use crate::laws::propagate;
 use crate::tell::ask;
-use crate::trail::{Entry, Trail};
+use clause_learn::learn;
+use clause_trail::{Entry, Trail};
 use formula::{Clause, Lit, Point};
 use frac128::Frac;
 use sqlite_items::Items;

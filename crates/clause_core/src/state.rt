@@ -4,7 +4,7 @@ ghost use Rattle.formula.specs.Contents.{IsFormula};
 ghost use Rattle.theory_law.specs.Seen.{at_start};
 
 use crate::agenda::{Agenda, agenda_of};
-use crate::trail::Trail;
+use clause_trail::Trail;
 use formula::Formula;
 use std::alloc::{AllocError, Global};
 use std::marker::Model;
@@ -29,7 +29,8 @@ impl<T: Theory> Model for Core<T> {
 
     ghost coded = { cored_code T.code };
 
-    ghost use Rattle.clause_core.specs.Solving.{IsCore, lits_of};
+    ghost use Rattle.clause_core.specs.Solving.{IsCore};
+    ghost use Rattle.clause_trail.specs.Decisions.{lits_of};
 
     ghost view = { λ c. record { formula = c.formula; theory = c.theory; trail = lits_of c.trail.entries } };
 

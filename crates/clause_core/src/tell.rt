@@ -1,17 +1,17 @@
 //! Asking the theory. Begin with `ask`: it tells the theory what the trail has since it was last told, and lets it check.
-ghost use Rattle.std.specs.Prelude.{◌≡◌, ◌<◌, ℕ, Bool, true, length, IfOk, IfErr, slice_get, Some, None};
+ghost use Rattle.std.specs.Prelude.{◌≡◌, ◌<◌, Bool, true, length, IfOk, IfErr, slice_get, Some, None};
 ghost use Rattle.std.specs.List.{Contains};
 ghost use Rattle.formula.specs.declared.atom.Lit.{Lit};
-ghost use Rattle.formula.specs.declared.atom.Atom.{Atom};
 ghost use Rattle.formula.specs.Reading.{opposite};
 ghost use Rattle.theory_law.specs.Seen.{IsAsserted, marks, with_events, with_asserted};
 ghost use Rattle.theory_law.specs.Verdicts.{FailHolds, last_cut};
 ghost use Rattle.clause_core.specs.Solving.{mark_of, put_of, atom_of, events, IsTold};
-ghost use Rattle.clause_core.specs.Cored.{IsComplete, IsFull};
-ghost use Rattle.clause_core.specs.Stepping.{AnswerHolds, IsStuck};
+ghost use Rattle.clause_trail.specs.Propagation.{IsComplete};
+ghost use Rattle.clause_core.specs.inside.Asking.{AnswerHolds, IsFull};
+ghost use Rattle.clause_core.specs.Stepping.{IsStuck};
 
 use crate::Core;
-use crate::trail::Trail;
+use clause_trail::Trail;
 use formula::{Formula, Lit};
 use theory_law::{Theory, TheoryFail, Verdict};
 

@@ -2,9 +2,10 @@ use Rattle.std.proofs.Common.{◌≡◌, ℕ, ◌<◌, List, refl, ap, sym, subs
 use Rattle.std.specs.List.{All}
 use Rattle.formula.specs.declared.atom.Lit.{Lit}
 use Rattle.formula.specs.Contents.{Contents}
-use Rattle.clause_core.specs.Solving.{IsPushed, IsWithin, lits_of}
-use Rattle.clause_core.specs.Cored.{HasTwo}
-use Rattle.clause_core.specs.Levels.{IsSettled}
+use Rattle.clause_trail.specs.Pushing.{IsPushed}
+use Rattle.clause_trail.specs.Decisions.{IsWithin, lits_of}
+use Rattle.clause_trail.specs.Propagation.{HasTwo}
+use Rattle.clause_core.specs.inside.Levels.{IsSettled}
 use Rattle.clause_core.proofs.Clauses.{within_clause, within_clauses}
 use Rattle.clause_core.proofs.Cores.{core_back, core_added}
 use Rattle.clause_core.proofs.Settled.{core_settled}

@@ -1,10 +1,11 @@
 use Rattle.std.proofs.Common.{arith, ap, sym, subst, List, length, ◌∙◌, slice_get}
-use Rattle.clause_core.specs.declared.trail.Entry.{Entry}
-use Rattle.clause_core.specs.Solving.{IsLastDecision, IsSane, IsTold}
 use Rattle.std.proofs.lemmas.List.{length-take-le}
-use Rattle.clause_core.proofs.Gets.{get-within}
-use Rattle.clause_core.proofs.Backs.{level_told, level_marked, sane_take, told_back, told_keep, last_low, shorter_take}
 use Rattle.theory_law.specs.Seen.{Seen}
+use Rattle.clause_trail.specs.declared.trail.Entry.{Entry}
+use Rattle.clause_trail.specs.Decisions.{IsLastDecision}
+use Rattle.clause_core.specs.Solving.{IsSane, IsTold}
+use Rattle.clause_trail.proofs.Gets.{get-within}
+use Rattle.clause_core.proofs.Backs.{level_told, level_marked, sane_take, told_back, told_keep, last_low, shorter_take}
 use Rattle.clause_core.proofs.Telling.{seen_back}
 use Rattle.clause_core.proofs.back.back_to.Goals as goal
 

@@ -1,5 +1,5 @@
 use Rattle.std.proofs.Common.{◌<◌}
-use Rattle.clause_core.specs.Levels.{IsAfter}
+use Rattle.clause_core.specs.inside.Levels.{IsAfter}
 use Rattle.clause_core.proofs.back.level_of.Given as goal
 
 abbrev pub invariant-loop-lit : goal.invariant-loop-lit

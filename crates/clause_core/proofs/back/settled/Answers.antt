@@ -1,10 +1,10 @@
 use Rattle.std.proofs.Common.{rules, ◌≡◌, ◌<◌, false, List, [], ◌∷◌, length, get_or, Some, None, slice_get, sym, ap, subst, refl, arith, inl, inr}
 use Rattle.std.proofs.lemmas.Bool.{cases_lt}
 use Rattle.formula.specs.declared.atom.Lit.{Lit}
-use Rattle.clause_core.specs.declared.trail.Entry.{Entry}
-use Rattle.clause_core.specs.Standing.{Stands}
-use Rattle.clause_core.specs.Solving.{HasDecisionAt}
-use Rattle.clause_core.proofs.Gets.{get-from}
+use Rattle.clause_trail.specs.declared.trail.Entry.{Entry}
+use Rattle.clause_trail.specs.Standing.{Stands}
+use Rattle.clause_trail.specs.Decisions.{HasDecisionAt}
+use Rattle.clause_trail.proofs.Gets.{get-from}
 use Rattle.clause_core.proofs.back.settled.Goals as goal
 
 first : Entry

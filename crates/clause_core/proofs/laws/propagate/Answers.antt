@@ -1,8 +1,9 @@
 use Rattle.std.proofs.Common.{refl, subst, sym, List, ℕ, length}
 use Rattle.std.specs.List.{All}
 use Rattle.formula.specs.declared.atom.Lit.{Lit}
-use Rattle.clause_core.specs.Solving.{IsPushed, IsWithin}
-use Rattle.clause_core.proofs.Bridge.{grown, answered}
+use Rattle.clause_trail.specs.Pushing.{IsPushed}
+use Rattle.clause_trail.specs.Decisions.{IsWithin}
+use Rattle.clause_trail.proofs.Bridge.{grown, answered}
 use Rattle.clause_core.proofs.Cores.{core_pushed}
 use Rattle.clause_core.proofs.laws.propagate.Goals as goal
 

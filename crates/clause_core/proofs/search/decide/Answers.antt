@@ -1,4 +1,4 @@
-use Rattle.clause_core.proofs.Bridge.{lits_stand}
+use Rattle.clause_trail.proofs.Bridge.{lits_stand}
 use Rattle.clause_core.proofs.Cores.{core_decided}
 use Rattle.clause_core.proofs.search.decide.Goals as goal
 

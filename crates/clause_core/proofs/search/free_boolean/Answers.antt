@@ -1,4 +1,4 @@
-use Rattle.clause_core.proofs.Bridge.{free_lits}
+use Rattle.clause_core.proofs.Choices.{free_lits}
 use Rattle.clause_core.proofs.search.free_boolean.Goals as goal
 
 pub returns : goal.returns

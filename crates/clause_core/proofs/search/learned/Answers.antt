@@ -5,9 +5,9 @@ use Rattle.formula.specs.Contents.{is_clause}
 use Rattle.formula.specs.Reading.{opposite}
 use Rattle.theory_law.specs.Units.{Follows}
 use Rattle.theory_law.specs.Licence.{IsNew}
-use Rattle.clause_core.specs.Solving.{IsBelow, IsWithin}
-use Rattle.clause_core.specs.Analysis.{IsConflict}
-use Rattle.clause_core.proofs.Bridge.{conflict_lits}
+use Rattle.clause_trail.specs.Decisions.{IsBelow, IsWithin}
+use Rattle.clause_trail.specs.Scanning.{IsConflict}
+use Rattle.clause_trail.proofs.Bridge.{conflict_lits}
 use Rattle.clause_core.proofs.Clauses.{rising_clause}
 use Rattle.clause_core.proofs.Learned.{made}
 use Rattle.clause_core.proofs.search.learned.Goals as goal

@@ -2,10 +2,10 @@ use Rattle.std.proofs.Common.{List, length, subst}
 use Rattle.std.specs.List.{Contains}
 use Rattle.std.proofs.lemmas.Option.{MatchOption-at_none, MatchOption-at_some}
 use Rattle.formula.specs.declared.atom.Lit.{Lit}
-use Rattle.clause_core.specs.Cored.{IsComplete, IsFalseAt, IsFull}
+use Rattle.clause_trail.specs.Propagation.{IsComplete, IsFalseAt}
+use Rattle.clause_core.specs.inside.Asking.{IsFull}
 use Rattle.clause_core.proofs.Sanity.{none_from, none_true}
-use Rattle.clause_core.proofs.Licences.{event_clash}
-use Rattle.clause_core.proofs.Events.{IsFree, event_cut, event_full}
+use Rattle.clause_core.proofs.Events.{event_clash, IsFree, event_cut, event_full}
 use Rattle.clause_core.proofs.search.round.Goals as goal
 
 pub returns-in-Clash-clause-event : goal.returns-in-Clash-clause-event

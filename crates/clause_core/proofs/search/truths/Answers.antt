@@ -1,8 +1,8 @@
 use Rattle.std.proofs.Common.{◌≡◌, ℕ, ◌++◌, ◌∷◌, [], sym, ap, subst, arith, Some, slice_get, ◌∙◌, inl, inr, List, Bool, None, false, rules}
 use Rattle.std.proofs.lemmas.Bool.{cases_eq}
 use Rattle.std.proofs.lemmas.Option.{get_or_from_slice_get}
-use Rattle.clause_core.specs.declared.trail.Entry.{Entry}
-use Rattle.clause_core.proofs.Gets.{get-push_same, get-push_old}
+use Rattle.clause_trail.specs.declared.trail.Entry.{Entry}
+use Rattle.clause_trail.proofs.Gets.{get-push_same, get-push_old}
 use Rattle.clause_core.proofs.search.truths.Goals.{in-Some, in-None}
 use Rattle.clause_core.proofs.search.truths.Goals as goal
 

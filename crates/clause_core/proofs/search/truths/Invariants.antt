@@ -1,6 +1,6 @@
 use Rattle.std.proofs.Common.{◌≡◌, ℕ, ◌<◌, Some, slice_get, length}
 use Rattle.formula.specs.declared.atom.Lit.{Lit}
-use Rattle.clause_core.specs.Standing.{Stands}
+use Rattle.clause_trail.specs.Standing.{Stands}
 use Rattle.clause_core.proofs.search.truths.Given as goal
 
 abbrev pub invariant-loop-b : goal.invariant-loop-b

@@ -1,7 +1,7 @@
 use Rattle.std.proofs.Common.{List, ◌++◌, ◌∷◌, [], ap, arith, sym, ◌∙◌}
 use Rattle.std.proofs.lemmas.List.{take_all}
 use Rattle.rational.specs.Fraction.{Fraction}
-use Rattle.clause_core.proofs.Backs.{take_more}
+use Rattle.clause_trail.proofs.Fronts.{take_more}
 use Rattle.clause_core.proofs.search.values.Goals as goal
 
 pub loop-v-init : goal.loop-v-init

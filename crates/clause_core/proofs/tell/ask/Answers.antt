@@ -1,7 +1,7 @@
 use Rattle.std.proofs.Common.{◌∙◌}
 use Rattle.clause_core.proofs.Answering.{is_told, full_told, answer_of, trouble_of}
 use Rattle.clause_core.proofs.Cores.{core_told}
-use Rattle.clause_core.proofs.Licences.{consistent}
+use Rattle.clause_trail.proofs.Bridge.{consistent}
 use Rattle.clause_core.proofs.tell.ask.Goals as goal
 
 pub check-requires : goal.check-requires

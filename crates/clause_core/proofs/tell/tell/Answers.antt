@@ -1,7 +1,7 @@
 use Rattle.std.proofs.Common.{◌<◌, List, Option, None, false, arith, ap, ◌∙◌, subst, length, get_or}
 use Rattle.formula.specs.declared.atom.Lit.{Lit}
 use Rattle.theory_law.specs.Seen.{Seen, IsAsserted}
-use Rattle.clause_core.specs.declared.trail.Entry.{Entry}
+use Rattle.clause_trail.specs.declared.trail.Entry.{Entry}
 use Rattle.clause_core.proofs.Backs.{told_room, told_open, entry_at}
 use Rattle.clause_core.proofs.Telling.{told_first, told_start, told_step, told_end}
 use Rattle.clause_core.proofs.tell.tell.Goals as goal

@@ -1,7 +1,0 @@
-use Rattle.std.proofs.Common.{ℕ, ◌<◌, ◌∷◌, [], List, get_or}
-use Rattle.formula.specs.declared.atom.Lit.{Lit}
-use Rattle.clause_core.specs.Licence.{IsPart}
-use Rattle.clause_core.proofs.analyze.is_new.Given as goal
-
-abbrev pub invariant-loop-clause : goal.invariant-loop-clause
-invariant-loop-clause l = (k : ℕ) (d : List Lit) → k < l.clause-index → IsPart (get_or l.clauses k d) (l.lit ∷ []) → ⊥

@@ -1,7 +1,0 @@
-use Rattle.std.proofs.Common.{ℕ, ◌<◌}
-use Rattle.std.specs.Option.{MatchOption}
-use Rattle.clause_core.specs.Solving.{HasDecisionAt}
-use Rattle.clause_core.proofs.back.last_decision.Given as goal
-
-abbrev pub invariant-loop-i : goal.invariant-loop-i
-invariant-loop-i l = MatchOption l.last ((j : ℕ) → j < l.i → HasDecisionAt l.entries j → ⊥) (λ d. HasDecisionAt l.entries d × ((j : ℕ) → d < j → j < l.i → HasDecisionAt l.entries j → ⊥))

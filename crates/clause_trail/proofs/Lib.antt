@@ -1,0 +1,9 @@
+pub mod Fronts
+pub mod Pushed
+pub mod Bridge
+pub mod Gets
+pub mod Lasts
+pub mod Places
+pub mod Lits
+pub mod Scans
+pub mod Rested

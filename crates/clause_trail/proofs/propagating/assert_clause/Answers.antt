@@ -1,0 +1,15 @@
+use Rattle.clause_trail.proofs.Pushed.{forced_next, pushed_result, pushed_none}
+use Rattle.clause_trail.proofs.propagating.assert_clause.Goals as goal
+
+pub push-requires-clause-booleans : goal.push-requires-clause-booleans
+push-requires-clause-booleans c =
+    let f = forced_next c.args.clauses.now c.args.trail.now.booleans c.args.trail.now.entries c.args.number c.in-Unit.lit c.requires.within c.lits_at.result.now c.lits_at.ensures c.in-Unit.ensures.0 c.in-Unit.ensures.1 in
+    f.low
+
+pub returns-in-Unit-clause-pushed : goal.returns-in-Unit-clause-pushed
+returns-in-Unit-clause-pushed c =
+    let f = forced_next c.args.clauses.now c.args.trail.now.booleans c.args.trail.now.entries c.args.number c.in-Unit.lit c.requires.within c.lits_at.result.now c.lits_at.ensures c.in-Unit.ensures.0 c.in-Unit.ensures.1 in
+    pushed_result c.push.result _ c.push.ensures.ok c.push.ensures.err f
+
+pub returns-in_default-clause-pushed : goal.returns-in_default-clause-pushed
+returns-in_default-clause-pushed c = pushed_none c.args.trail.now.entries
