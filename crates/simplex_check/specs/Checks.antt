@@ -34,13 +34,13 @@ abbrev pub NextPasses : Limits → Table → (ℕ → Pair) → Wide → Type 0
 NextPasses l t place w = (r : ℕ) × (e : ℕ) × (side : Side) × IsLeastViolated l t place r side × IsLeastHelp l t place r side e × PivotPasses (cell t) (width t) r e w
 
 -- where the trace ends: nothing is violated; or r is and nothing helps; or the pivots are spent and a variable is violated; or
--- an operation passes
+-- an operation passes. With the pivots spent, help is no more looked for
 abbrev pub EndsIn : Limits → ℕ → List (ℕ × ℕ) → Table → (ℕ → Pair) → Result Verdict CheckFail → Type 0
 EndsIn l pivots swaps t place (Ok Fits) = IsSettled l t place
-EndsIn l pivots swaps t place (Ok (Clash r side)) = IsStuck l t place r side
+EndsIn l pivots swaps t place (Ok (Clash r side)) = (length swaps < pivots) × IsStuck l t place r side
 EndsIn l pivots swaps t place (Ok Spent) = (length swaps ≡ pivots) × (r : ℕ) × (side : Side) × IsLeastViolated l t place r side
 EndsIn l pivots swaps t place (Err (Value w)) = ValuePasses t place w
-EndsIn l pivots swaps t place (Err (Pivot w)) = NextPasses l t place w
+EndsIn l pivots swaps t place (Err (Pivot w)) = (length swaps < pivots) × NextPasses l t place w
 EndsIn l pivots swaps t place (Err Memory) = Unit {0}
 
 -- the trace is that of the check, and has at most as many pivots as it may make; without memory for it only the solutions stay
