@@ -1,0 +1,14 @@
+pub mod Finishing
+pub mod Loops
+pub mod Forming
+pub mod Both
+pub mod Then
+pub mod Staging
+pub mod ReadSteps
+pub mod Places
+pub mod Acting
+pub mod Changing
+pub mod Reading
+pub mod Lits
+pub mod Whole
+pub mod Goals
