@@ -1,0 +1,9 @@
+pub mod Pieces
+pub mod Spelled
+pub mod Marks
+pub mod Found
+pub mod Clauses
+pub mod Lists
+pub mod Calls
+pub mod Remaining
+pub mod Words
