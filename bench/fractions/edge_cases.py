@@ -7,34 +7,12 @@ the shape of each text. No row comes from the program under test.
 """
 from fractions import Fraction
 from math import floor, gcd
+from pathlib import Path
 import re
 import sys
 
-MOST = 2**127 - 1
-
-
-def within(*numbers):
-    return all(-MOST <= n <= MOST for n in numbers)
-
-
-def trunc(a, b):
-    """The quotient of a by its divisor b."""
-    assert a % b == 0
-    return a // b
-
-
-def sum_numbers(x, y):
-    a, b, c, d = x.numerator, x.denominator, y.numerator, y.denominator
-    g = gcd(b, d)
-    left, right = a * (d // g), c * (b // g)
-    total = left + right
-    return left, right, total, (b // g) * (d // gcd(total, g))
-
-
-def product_numbers(x, y):
-    a, b, c, d = x.numerator, x.denominator, y.numerator, y.denominator
-    g, h = gcd(a, d), gcd(c, b)
-    return trunc(a, g) * trunc(c, h), trunc(b, h) * trunc(d, g)
+sys.path.append(str(Path(__file__).resolve().parents[1]))
+from fractions128 import MOST, product_numbers, show, sum_numbers, within
 
 
 def operation(op, x, y):
@@ -43,10 +21,6 @@ def operation(op, x, y):
         return x + other if within(*sum_numbers(x, other)) else None
     other = y if op == "mul" else 1 / y
     return x * other if within(*product_numbers(x, other)) else None
-
-
-def show(x):
-    return str(x.numerator) if x.denominator == 1 else f"{x.numerator}/{x.denominator}"
 
 
 def read_text(text):

@@ -5,45 +5,19 @@ Everything is computed from the definitions in words, with unlimited integers, o
 a ground task, the layers, the named operations, the pattern. No answer comes from the program under test.
 """
 from fractions import Fraction
-from math import gcd
 from pathlib import Path
 import re
+import sys
 
-MOST = 2**127 - 1
-DATA = Path(__file__).resolve().parents[2] / "crates/layer_rows/data"
+BENCH = Path(__file__).resolve().parents[1]
+sys.path.append(str(BENCH))
+from fractions128 import MOST, Wide, add, mul, show
 
-
-class Wide(Exception):
-    pass
+DATA = BENCH.parent / "crates/layer_rows/data"
 
 
 class Form(Exception):
     pass
-
-
-def show(x):
-    return str(x.numerator) if x.denominator == 1 else f"{x.numerator}/{x.denominator}"
-
-
-def within(*numbers):
-    return all(-MOST <= n <= MOST for n in numbers)
-
-
-def add(x, y):
-    a, b, c, d = x.numerator, x.denominator, y.numerator, y.denominator
-    g = gcd(b, d)
-    left, right = a * (d // g), c * (b // g)
-    if not within(left, right, left + right, (b // g) * (d // gcd(left + right, g))):
-        raise Wide(f"add {show(x)} {show(y)}")
-    return x + y
-
-
-def mul(x, y):
-    a, b, c, d = x.numerator, x.denominator, y.numerator, y.denominator
-    g, h = gcd(a, d), gcd(c, b)
-    if not within((a // g) * (c // h), (b // h) * (d // g)):
-        raise Wide(f"mul {show(x)} {show(y)}")
-    return x * y
 
 
 # ---- texts of tasks
@@ -235,7 +209,7 @@ def named(layer, action, part, compute):
     try:
         return compute()
     except Wide as wide:
-        raise Wide(f"wide {layer} {action} {part} {wide}")
+        raise Wide("wide", str(layer), str(action), part, *wide.args)
 
 
 # ---- answers
@@ -259,7 +233,7 @@ def answer(call, text):
     except Form:
         return "form"
     except Wide as wide:
-        return str(wide)
+        return " ".join(wide.args)
 
 
 for name in ("tasks", "patterns", "layers"):

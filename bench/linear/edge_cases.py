@@ -5,47 +5,11 @@ Everything is computed with unlimited integers, from the definitions in words: w
 which numbers an operation names. No row comes from the program under test.
 """
 from fractions import Fraction
-from math import gcd
+from pathlib import Path
+import sys
 
-MOST = 2**127 - 1
-
-
-class Wide(Exception):
-    pass
-
-
-def within(*numbers):
-    return all(-MOST <= n <= MOST for n in numbers)
-
-
-def add(x, y):
-    a, b, c, d = x.numerator, x.denominator, y.numerator, y.denominator
-    g = gcd(b, d)
-    left, right = a * (d // g), c * (b // g)
-    total = left + right
-    if not within(left, right, total, (b // g) * (d // gcd(total, g))):
-        raise Wide(f"wide:add:{show(x)}:{show(y)}")
-    return x + y
-
-
-def mul(x, y):
-    a, b, c, d = x.numerator, x.denominator, y.numerator, y.denominator
-    g, h = gcd(a, d), gcd(c, b)
-    if not within((a // g) * (c // h), (b // h) * (d // g)):
-        raise Wide(f"wide:mul:{show(x)}:{show(y)}")
-    return x * y
-
-
-def div(x, y):
-    a, b, c, d = x.numerator, x.denominator, y.numerator, y.denominator
-    g, h = gcd(a, c), gcd(d, b)
-    if not within((a // g) * (d // h), (b // h) * (c // g)):
-        raise Wide(f"wide:div:{show(x)}:{show(y)}")
-    return x / y
-
-
-def show(x):
-    return str(x.numerator) if x.denominator == 1 else f"{x.numerator}/{x.denominator}"
+sys.path.append(str(Path(__file__).resolve().parents[1]))
+from fractions128 import MOST, Wide, add, div, mul, show
 
 
 class Lin:
@@ -95,7 +59,7 @@ def answer(call):
     try:
         result = call()
     except Wide as wide:
-        return str(wide)
+        return ":".join(("wide", *wide.args))
     return show(result) if isinstance(result, Fraction) else str(result)
 
 
