@@ -7,3 +7,4 @@ pub mod Standing
 pub mod LiteralLaws
 pub mod ComparisonLaws
 pub mod AskedRows
+pub mod ChangeLaws
