@@ -1,37 +1,27 @@
 -- What is made of moves, by the numbers of atoms and functions.
-use Rattle.std.proofs.Common.{◌≡◌, ℕ, zero, suc, ◌+◌, ◌<◌, ◌≤◌, Bool, true, false, not, cond, ◌&&◌, ◌||◌, List, [], ◌∷◌, ◌++◌, map, length, Option, Some, None, refl, sym, ap, ap₂, subst, ◌∙◌, nat_eq, nat_lt, eq-eqb, arith, append_assoc, pos}
+use Rattle.std.proofs.Common.{◌≡◌, ℕ, Bool, true, false, not, cond, ◌&&◌, ◌||◌, List, [], ◌∷◌, ◌++◌, map, Some, None, refl, ap, ap₂, ◌∙◌, nat_eq, pos}
 use Rattle.std.specs.Prelude.{slice_get}
-use Rattle.std.specs.List.{list_all, list_any, filter_map, flat_map, cons_option}
-use Rattle.std.specs.Option.{option_map}
-use Rattle.std.proofs.lemmas.Bool.{eqb-true, and_parts}
-use Rattle.std.proofs.lemmas.List.{append-nil}
+use Rattle.std.specs.List.{list_all, list_any}
+use Rattle.std.proofs.lemmas.Bool.{and_parts}
 use Rattle.rational.specs.Fraction.{Fraction, whole}
-use Rattle.frac128.specs.declared.operations.Wide.{Wide}
 use Rattle.lin.specs.Linear.{Linear, var}
-use Rattle.task_core.specs.Step.{is_in}
 use Rattle.ground_numbers.specs.declared.named.Named.{Named}
 use Rattle.ground_numbers.specs.Numbers.{same, is_listed, number_in, AreDistinct}
-use Rattle.ground_action.specs.Setting.{Setting, atom}
+use Rattle.ground_action.specs.Setting.{Setting}
 use Rattle.ground_action.specs.Parts as spec
 use Rattle.ground_action.specs.Leaves as spec_leaves
 use Rattle.ground_action.specs.Leaves.{puts_atom, acts, assign, increase, decrease, scale_up, scale_down}
 use Rattle.ground_action.specs.GroundAction as action
 use Rattle.ground_action.specs.GroundAction.{numbers_where, rows_of, puts_it, is_added, is_deleted, fold_acts, linear_act, sum_act, passes_on, is_stepped, increment_of, nonzero, new_value_of}
-use Rattle.ground_action.specs.Work as work
 use Rattle.ground_action.specs.Work.{fold_ops, sum_ops, act_ops, func_ops}
 use Rattle.ground_parts.specs.Forms.{form_of}
 use Rattle.ground_draft.specs.declared.moves.Act.{Act}
 use Rattle.ground_draft.specs.declared.moves.Act.TheVariants.{Assign, Increase, Decrease, ScaleUp, ScaleDown}
 use Rattle.ground_draft.specs.declared.moves.Move.{Move}
 use Rattle.ground_draft.specs.declared.moves.Move.TheVariants.{Put, Change}
-use Rattle.ground_draft.specs.declared.rows.Row.{Row}
-use Rattle.ground_draft.specs.declared.rows.Row.TheVariants.{Same, Grows, Becomes}
-use Rattle.ground_draft.specs.declared.rows.Rows.{Rows}
 use Rattle.ground_draft.specs.inside.Running.{run, ops_run}
-use Rattle.ground_draft.specs.inside.Rising.{rising}
-use Rattle.ground_draft.specs.inside.Acts.{is_step, grow, grow_ops, become, become_ops, step_by, grow_by, grow_ops_by, become_by, become_ops_by, is_stepped_at, sum_at, sum_ops_at, value_at, value_ops_at, sum_row, row_at, row_ops_at, with_row, next_row, rows_at, rows_ops_at, no_rows}
-use Rattle.ground_draft.specs.inside.Lists.{put_at, added_in, unless_in, deleted_in, changed_at, changed_in}
-use Rattle.ground_draft.proofs.Places.{rising_where, number_below, same_place, own_place, rising_is_in}
+use Rattle.ground_draft.specs.inside.Acts.{is_step, grow, grow_ops, become, become_ops, step_by, grow_by, grow_ops_by, become_by, become_ops_by}
+use Rattle.ground_draft.proofs.Places.{same_place}
 
 -- ---- an act and a move, by number
 abbrev pub form_act : spec_leaves.Act → Act

@@ -1,5 +1,5 @@
 -- The two sides of a comparison, the left one first.
-use Rattle.std.proofs.Common.{◌≡◌, ℕ, Bool, true, false, cond, List, [], ◌∷◌, ◌++◌, Option, Some, None, Result, refl, sym, ap, ap₂, subst, ◌∙◌, append_assoc}
+use Rattle.std.proofs.Common.{◌≡◌, ℕ, cond, List, [], ◌∷◌, ◌++◌, Option, Some, None, Result, refl, sym, ap, ap₂, subst, ◌∙◌, append_assoc}
 use Rattle.std.specs.Prelude.{is_some}
 use Rattle.frac128.specs.declared.operations.Wide.{Wide}
 use Rattle.lin.specs.declared.failure.LinFail.{LinFail}
@@ -20,7 +20,6 @@ use Rattle.ground_action.specs.Work.{work_of, is_part, sides_ops, effect_ops}
 use Rattle.ground_action.proofs.WorkLaws.{work_is}
 use Rattle.ground_parts.specs.declared.part.Part.{Part as Form}
 use Rattle.ground_parts.specs.Forms.{part_made}
-use Rattle.ground_draft.specs.declared.leaves.Leaf.{Leaf}
 use Rattle.ground_draft.specs.declared.leaves.Leaf.TheVariants.{Sides}
 use Rattle.ground_draft.specs.declared.moves.Move.{Move}
 use Rattle.ground_draft.specs.inside.Made.{sides_made, acts_made, on_func, move_made}

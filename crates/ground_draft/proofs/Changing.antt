@@ -1,11 +1,10 @@
 -- The lists of atoms and the rows of functions, as the specification has them.
-use Rattle.std.proofs.Common.{◌≡◌, ℕ, zero, suc, ◌+◌, ◌<◌, ◌≤◌, Bool, true, false, not, cond, ◌&&◌, ◌||◌, List, [], ◌∷◌, ◌++◌, map, length, Option, Some, None, refl, sym, ap, ap₂, subst, ◌∙◌, nat_eq, nat_lt, arith, append_assoc, pos}
+use Rattle.std.proofs.Common.{◌≡◌, ℕ, suc, ◌+◌, Bool, true, false, not, cond, ◌&&◌, ◌||◌, List, [], ◌∷◌, ◌++◌, map, length, Option, Some, None, refl, sym, ap, ap₂, ◌∙◌, nat_eq, nat_lt, arith, append_assoc, pos}
 use Rattle.std.specs.Prelude.{slice_get}
 use Rattle.std.specs.List.{list_all, list_any, filter_map, flat_map, cons_option}
 use Rattle.std.proofs.lemmas.Bool.{eqb-true, and_parts}
 use Rattle.std.proofs.lemmas.List.{append-nil}
 use Rattle.rational.specs.Fraction.{Fraction, whole}
-use Rattle.frac128.specs.declared.operations.Wide.{Wide}
 use Rattle.lin.specs.Linear.{Linear, var}
 use Rattle.task_core.specs.Step.{is_in}
 use Rattle.ground_numbers.specs.declared.named.Named.{Named}
@@ -22,8 +21,7 @@ use Rattle.ground_draft.specs.declared.rows.Row.{Row}
 use Rattle.ground_draft.specs.declared.rows.Row.TheVariants.{Same, Grows, Becomes}
 use Rattle.ground_draft.specs.declared.rows.Rows.{Rows}
 use Rattle.ground_draft.specs.inside.Running.{run, ops_run}
-use Rattle.ground_draft.specs.inside.Rising.{rising}
-use Rattle.ground_draft.specs.inside.Acts.{step_by, grow_by, grow_ops_by, become_by, become_ops_by, is_stepped_at, sum_at, sum_ops_at, value_at, value_ops_at, sum_row, row_at, row_ops_at, with_row, next_row, rows_at, rows_ops_at, no_rows}
+use Rattle.ground_draft.specs.inside.Acts.{sum_at, value_at, value_ops_at, sum_row, row_at, row_ops_at, with_row, next_row, rows_at, rows_ops_at, no_rows}
 use Rattle.ground_draft.specs.inside.Lists.{put_at, added_in, unless_in, deleted_in, changed_at, changed_in}
 use Rattle.ground_draft.proofs.Places.{rising_where, not_below, number_below, same_place, own_place, rising_is_in}
 use Rattle.ground_draft.proofs.Acting.{form_move, divides, target_listed, acts_it, stepped_is, sum_is, sum_ops_are, value_is, value_ops_are, no_increment, no_new_value, no_ops}

@@ -1,7 +1,7 @@
 -- A finished draft is the ground action.
-use Rattle.std.proofs.Common.{◌≡◌, ℕ, zero, suc, ◌+◌, Bool, true, false, not, cond, ◌&&◌, ◌||◌, List, [], ◌∷◌, ◌++◌, map, length, take, Option, Some, None, refl, sym, ap, ap₂, ◌∙◌, arith, append_assoc}
-use Rattle.std.specs.Prelude.{is_some, filter}
-use Rattle.std.specs.List.{list_all, list_any, filter_map, cons_option}
+use Rattle.std.proofs.Common.{◌≡◌, ℕ, suc, ◌+◌, Bool, true, false, not, cond, ◌&&◌, ◌||◌, List, [], ◌∷◌, ◌++◌, map, length, take, Some, refl, sym, ap, ap₂, ◌∙◌, arith}
+use Rattle.std.specs.Prelude.{is_some}
+use Rattle.std.specs.List.{list_all, filter_map, cons_option}
 use Rattle.std.proofs.lemmas.Bool.{and_parts}
 use Rattle.std.proofs.lemmas.List.Folds.{list_any-append}
 use Rattle.rational.specs.Fraction.{Fraction}
@@ -14,15 +14,14 @@ use Rattle.pddl_task.specs.declared.condition.Cond.TheVariants as cond_
 use Rattle.pddl_task.specs.declared.condition.Rel.{Rel}
 use Rattle.pddl_task.specs.declared.parts.TaskParts.{TaskParts}
 use Rattle.plan_step.specs.State.{PlanState}
-use Rattle.plan_step.specs.Meaning.{objects_of, signed}
+use Rattle.plan_step.specs.Meaning.{objects_of}
 use Rattle.ground_numbers.specs.declared.named.Named.{Named}
-use Rattle.ground_numbers.specs.Numbers.{named, same, is_listed, number_in, once}
+use Rattle.ground_numbers.specs.Numbers.{named, is_listed, once}
 use Rattle.ground_action.specs.Setting.{Setting, Proposition, atom, valued, same_proposition, setting_from, value_in, missing, proposition_number}
 use Rattle.ground_action.specs.Parts.{Part, constant, linear, Outcome, ends, bent, part}
-use Rattle.ground_action.specs.Leaves.{Leaf, fails, unclear, nothing, literal, compared, settled, compared_parts, compared_outcomes, atom_leaf, leaf_of, Move}
+use Rattle.ground_action.specs.Leaves.{Leaf, fails, unclear, nothing, literal, compared, settled, compared_parts, compared_outcomes, leaf_of, Move}
 use Rattle.ground_action.specs.GroundAction.{numbers_where, is_added, is_deleted, is_read, all_reads, same_literal, literal_row, comparison_row, increment_of, new_value_of, rows_of, action_from, leaves_of, moves_of, ground_action, is_literal_numbered, is_numbered, goal_leaf, goal_leaves, ground_goal}
 use Rattle.ground_action.proofs.WorkLaws.{same_number}
-use Rattle.ground_draft.specs.declared.draft.Draft.{Draft}
 use Rattle.ground_draft.specs.Drafts.{over_atoms, is_missing, draft_from, draft_of, goal_draft_of, rank_in, finished}
 
 -- ---- numbers of those that pass, of two lists

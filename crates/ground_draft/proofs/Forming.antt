@@ -1,5 +1,5 @@
 -- A part that has forgotten what it reads has the same form, and one operation is answered as a list of one.
-use Rattle.std.proofs.Common.{◌≡◌, List, [], ◌∷◌, Result, Ok, Err, refl, sym, subst}
+use Rattle.std.proofs.Common.{◌≡◌, [], ◌∷◌, Result, Ok, Err, refl, sym, subst}
 use Rattle.rational.specs.Fraction.{Fraction, ◌+ℚ◌}
 use Rattle.frac128.specs.Operations.{Answers}
 use Rattle.frac128.specs.declared.operations.Op.TheVariants.{Add}

@@ -1,15 +1,13 @@
 -- The goal, leaf by leaf, is what the specification says of it.
-use Rattle.std.proofs.Common.{◌≡◌, ℕ, suc, ◌≤◌, Bool, true, false, not, cond, ◌&&◌, ◌||◌, List, [], ◌∷◌, ◌++◌, map, length, pos, Option, Some, None, Result, refl, sym, ap, ap₂, subst, ◌∙◌, append_assoc, nat_eq}
-use Rattle.std.specs.Prelude.{slice_get, is_some}
+use Rattle.std.proofs.Common.{◌≡◌, ℕ, suc, Bool, true, false, cond, ◌&&◌, ◌||◌, List, [], ◌∷◌, ◌++◌, map, pos, Option, Some, None, Result, refl, sym, ap, ap₂, subst, ◌∙◌, append_assoc}
+use Rattle.std.specs.Prelude.{is_some}
 use Rattle.std.specs.List.{list_all, list_any, flat_map, filter_map, cons_option}
 use Rattle.std.proofs.lemmas.Bool.{and_parts}
 use Rattle.std.proofs.lemmas.List.{append-nil}
-use Rattle.std.proofs.lemmas.List.Folds.{list_any-append}
 use Rattle.rational.specs.Fraction.{Fraction, whole}
 use Rattle.frac128.specs.declared.operations.Wide.{Wide}
 use Rattle.lin.specs.Linear.{Linear, var}
 use Rattle.lin.specs.declared.comparison.Cmp.{Cmp}
-use Rattle.lin.specs.declared.comparison.Cmp.TheVariants as cmp
 use Rattle.lin.specs.declared.failure.LinFail.{LinFail}
 use Rattle.lin.specs.Operations.{AnswersInMemory}
 use Rattle.task_core.specs.Step.{is_in}
@@ -21,20 +19,19 @@ use Rattle.pddl_task.specs.declared.condition.Rel.{Rel}
 use Rattle.pddl_task.specs.declared.condition.Rel.TheVariants as rel
 use Rattle.pddl_task.specs.declared.expression.Expr.{Expr}
 use Rattle.pddl_task.specs.declared.expression.Expr.TheOpen.{Expr-F}
-use Rattle.pddl_task.specs.declared.expression.Expr.TheFolds.{fold-Expr}
 use Rattle.pddl_task.specs.declared.expression.Term.{Term}
 use Rattle.pddl_task.specs.declared.parts.TaskParts.{TaskParts}
 use Rattle.plan_step.specs.State.{PlanState}
-use Rattle.plan_step.specs.Meaning.{objects_of, signed}
+use Rattle.plan_step.specs.Meaning.{objects_of}
 use Rattle.ground_numbers.specs.declared.named.Named.{Named}
 use Rattle.ground_numbers.specs.Numbers.{named, same, is_listed, number_in, once, with_seen, AreDistinct}
 use Rattle.ground_action.specs.Setting.{Setting, atom, value_in, func_number, setting_from, are_numbered}
-use Rattle.ground_action.specs.Parts.{Part, constant, linear, Outcome, ends, bent, part, is_zero, with_part, with_parts, negated, divided, multiplied, folded_from, folded, given_part, call_part, plus_part, minus_part, part_step, part_of, reads_of}
+use Rattle.ground_action.specs.Parts.{Part, constant, linear, Outcome, ends, bent, part, with_part, with_parts, negated, divided, multiplied, folded_from, folded, given_part, plus_part, minus_part, part_step, part_of}
 use Rattle.ground_action.specs.Leaves as spec
 use Rattle.ground_action.specs.Leaves.{fails, unclear, nothing, literal, leaf_reads, settled, compared_parts, compared_outcomes, leaf_of}
 use Rattle.ground_action.specs.GroundAction as action
 use Rattle.ground_action.specs.GroundAction.{numbers_where, rows_of, increment_of, new_value_of, is_added, is_deleted, is_read, assigns_it, all_reads, same_literal, literal_row, comparison_row, goal_leaf, goal_leaves, is_numbered}
-use Rattle.ground_action.specs.Work.{work_of, is_part, parts_ops, outcomes_ops, sides_ops, has_values, cond_has_values, goal_leaf_ops, goal_ops}
+use Rattle.ground_action.specs.Work.{work_of, is_part, outcomes_ops, sides_ops, has_values, cond_has_values, goal_leaf_ops, goal_ops}
 use Rattle.ground_action.proofs.FoldLaws.{fold_related, AreSteps}
 use Rattle.ground_action.proofs.Groundable.{is_clear}
 use Rattle.ground_action.proofs.LinearLaws.{goal_clear}
@@ -54,7 +51,7 @@ use Rattle.ground_draft.specs.inside.Goal as goal
 use Rattle.ground_draft.specs.inside.Goal.{target_of, target_ops, never, no_targets, with_target, next_target, targets_of, targets_ops, targets_draft}
 use Rattle.ground_draft.proofs.Finishing.{where_none, no_reads}
 use Rattle.ground_draft.proofs.Places.{rising_where}
-use Rattle.ground_draft.proofs.Lits.{once_run, same_lit, place_is, parts_ops_are, cons_front, no_row}
+use Rattle.ground_draft.proofs.Lits.{once_run, same_lit, place_is, parts_ops_are, cons_front}
 use Rattle.ground_draft.proofs.Reading.{Reads, flat-append, missing_of, missing_in, missing_above, reads_are, compared_read, in_append}
 use Rattle.ground_draft.proofs.Whole.{same_draft}
 

@@ -1,18 +1,16 @@
 -- The literals and the comparisons of a draft, as the specification has them.
-use Rattle.std.proofs.Common.{◌≡◌, ℕ, zero, suc, Bool, true, false, not, cond, ◌&&◌, ◌||◌, List, [], ◌∷◌, ◌++◌, map, filter, Option, Some, None, refl, sym, ap, ap₂, subst, ◌∙◌, append_assoc, nat_eq, eq-eqb}
-use Rattle.std.specs.List.{list_all, list_any, flat_map, filter_map, cons_option}
+use Rattle.std.proofs.Common.{◌≡◌, ℕ, zero, suc, Bool, true, false, not, cond, ◌&&◌, ◌||◌, List, [], ◌∷◌, ◌++◌, map, filter, Option, Some, None, refl, sym, ap, ap₂, ◌∙◌, append_assoc, eq-eqb}
+use Rattle.std.specs.List.{list_all, flat_map, filter_map, cons_option}
 use Rattle.std.proofs.lemmas.Bool.{and_parts}
 use Rattle.std.proofs.lemmas.List.{append-nil}
 use Rattle.std.proofs.lemmas.List.Elements.{filter-append}
 use Rattle.lin.specs.Linear.{Linear}
 use Rattle.lin.specs.declared.comparison.Cmp.{Cmp}
-use Rattle.frac128.specs.declared.operations.Wide.{Wide}
 use Rattle.pddl_task.specs.declared.condition.Cond.{Cond}
 use Rattle.pddl_task.specs.declared.condition.Cond.TheVariants as cond_
 use Rattle.pddl_task.specs.declared.condition.Rel.{Rel}
 use Rattle.pddl_task.specs.declared.condition.Rel.TheVariants as rel
 use Rattle.plan_step.specs.Meaning.{objects_of, signed}
-use Rattle.plan_step.specs.Order.{related}
 use Rattle.ground_numbers.specs.declared.named.Named.{Named}
 use Rattle.ground_numbers.specs.Numbers.{named, same, is_listed, number_in, once, with_seen}
 use Rattle.ground_action.specs.Setting.{Setting, atom, same_proposition}
@@ -20,10 +18,9 @@ use Rattle.ground_action.specs.Parts.{Part, constant, linear, Outcome, ends, ben
 use Rattle.ground_action.specs.Leaves as spec
 use Rattle.ground_action.specs.Leaves.{literal, settled, compared_parts, compared_outcomes, leaf_of}
 use Rattle.ground_action.specs.GroundAction.{same_literal, literal_row, comparison_row, may_hold}
-use Rattle.ground_action.specs.Work.{work_of, is_part, condition_made, parts_ops, outcomes_ops, comparison_ops, literal_may_hold}
+use Rattle.ground_action.specs.Work.{parts_ops, outcomes_ops, comparison_ops, literal_may_hold}
 use Rattle.ground_action.proofs.StepLaws.{lit_sound}
 use Rattle.ground_action.proofs.WorkLaws.{work_is}
-use Rattle.ground_parts.specs.declared.part.Part.{Part as Form}
 use Rattle.ground_parts.specs.declared.comparison.Compared.{Compared}
 use Rattle.ground_parts.specs.declared.comparison.Compared.TheVariants.{Settled, Left}
 use Rattle.ground_parts.specs.Forms.{form_of, part_made, comparison_made}

@@ -1,7 +1,7 @@
 -- The functions without an initial value that an instance reads, and those that it assigns.
-use Rattle.std.proofs.Common.{◌≡◌, ℕ, ◌≤◌, Bool, true, false, not, cond, ◌&&◌, ◌||◌, List, [], ◌∷◌, ◌++◌, map, length, Option, Some, None, refl, sym, ap, ap₂, subst, ◌∙◌, nat_eq, nat_lt, append_assoc}
+use Rattle.std.proofs.Common.{◌≡◌, ℕ, ◌≤◌, Bool, true, false, cond, ◌&&◌, ◌||◌, List, [], ◌∷◌, ◌++◌, map, length, Option, Some, None, refl, sym, ap, ap₂, subst, ◌∙◌, nat_eq, nat_lt, append_assoc}
 use Rattle.std.specs.Prelude.{slice_get}
-use Rattle.std.specs.List.{list_all, list_any, flat_map, filter_map, cons_option}
+use Rattle.std.specs.List.{list_all, flat_map, filter_map, cons_option}
 use Rattle.std.proofs.lemmas.Bool.{and_parts}
 use Rattle.std.proofs.lemmas.List.{append-nil}
 use Rattle.std.proofs.lemmas.List.Folds.{list_any-append}
@@ -18,22 +18,20 @@ use Rattle.pddl_task.specs.declared.effect.NumOp.{NumOp}
 use Rattle.pddl_task.specs.declared.effect.NumOp.TheVariants.{Assign, Increase, Decrease, ScaleUp, ScaleDown}
 use Rattle.pddl_task.specs.declared.expression.Expr.{Expr}
 use Rattle.pddl_task.specs.declared.expression.Expr.TheOpen.{Expr-F}
-use Rattle.pddl_task.specs.declared.expression.Expr.TheFolds.{fold-Expr}
-use Rattle.plan_step.specs.Meaning.{objects_of, signed}
+use Rattle.plan_step.specs.Meaning.{objects_of}
 use Rattle.ground_numbers.specs.declared.named.Named.{Named}
-use Rattle.ground_numbers.specs.Numbers.{named, same, is_listed, number_in, AreDistinct}
+use Rattle.ground_numbers.specs.Numbers.{named, same, is_listed, AreDistinct}
 use Rattle.ground_numbers.specs.inside.Same.{same_sound}
 use Rattle.ground_action.specs.Setting.{Setting, atom, value_in, func_number, are_numbered}
-use Rattle.ground_action.specs.Parts.{Part, constant, linear, Outcome, ends, bent, part, is_zero, with_part, with_parts, added, negated, difference, multiplied, quotient, divided, folded_from, folded, given_part, call_part, plus_part, minus_part, part_step, part_of, reads_of}
-use Rattle.ground_action.specs.Leaves.{Leaf, fails, unclear, nothing, literal, compared, leaf_reads, settled, side_by_side, comparison_of, compared_part, compared_parts, compared_outcomes, atom_leaf, leaf_of, Act, assign, increase, decrease, scale_up, scale_down, Move, puts_atom, acts, MoveOutcome, move_ends, move_bent, move, scaled, moved, moved_by, move_of, move_reads}
+use Rattle.ground_action.specs.Parts.{Part, constant, linear, Outcome, ends, bent, part, is_zero, with_part, with_parts, added, negated, difference, multiplied, quotient, divided, folded_from, folded, given_part, plus_part, minus_part, part_step, part_of, reads_of}
+use Rattle.ground_action.specs.Leaves.{literal, leaf_reads, settled, side_by_side, compared_parts, compared_outcomes, leaf_of, scale_down, Move, puts_atom, acts, MoveOutcome, move_ends, move_bent, move, moved, moved_by, move_of, move_reads}
 use Rattle.ground_action.specs.GroundAction as action
 use Rattle.ground_action.specs.GroundAction.{assigns_it, move_in, may_move}
 use Rattle.ground_action.specs.Work.{is_part, condition_made}
 use Rattle.ground_action.proofs.FoldLaws.{fold_related, AreSteps}
 use Rattle.ground_draft.specs.Drafts.{is_missing}
-use Rattle.ground_draft.specs.inside.Lists.{if_missing, call_reads, joined, reads_step, expression_reads, condition_reads, is_assign, target_reads, change_reads, assigned_at}
+use Rattle.ground_draft.specs.inside.Lists.{if_missing, joined, reads_step, expression_reads, condition_reads, is_assign, target_reads, change_reads, assigned_at}
 use Rattle.ground_draft.proofs.Places.{number_below, not_below, same_place}
-use Rattle.ground_draft.proofs.Acting.{target_listed}
 
 pub flat-append : {A B : Type 0} (f : A → List B) (xs ys : List A) → flat_map f (xs ++ ys) ≡ flat_map f xs ++ flat_map f ys
 flat-append f [] ys = refl

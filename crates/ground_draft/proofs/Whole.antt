@@ -13,7 +13,6 @@ use Rattle.lin.specs.declared.comparison.Cmp.{Cmp}
 use Rattle.lin.specs.declared.failure.LinFail.{LinFail}
 use Rattle.lin.specs.Operations.{AnswersInMemory}
 use Rattle.task_core.specs.Step.{is_in}
-use Rattle.task_core.specs.declared.action.GAction.{GAction}
 use Rattle.pddl_task.specs.declared.action.Action.{Action}
 use Rattle.pddl_task.specs.declared.condition.Cond.{Cond}
 use Rattle.pddl_task.specs.declared.condition.Cond.TheVariants as cond_
@@ -28,24 +27,22 @@ use Rattle.plan_step.specs.Meaning.{objects_of}
 use Rattle.ground_numbers.specs.declared.named.Named.{Named}
 use Rattle.ground_numbers.specs.Numbers.{named, same, is_listed, number_in, once, AreDistinct}
 use Rattle.ground_action.specs.Setting.{Setting, atom, valued, same_proposition, setting_from, missing, are_numbered}
-use Rattle.ground_action.specs.Parts.{Part, constant, linear, Outcome, ends, bent, part, is_zero, part_of}
+use Rattle.ground_action.specs.Parts.{constant, linear, Outcome, ends, bent, part, is_zero, part_of}
 use Rattle.ground_action.specs.Leaves as spec
 use Rattle.ground_action.specs.Leaves.{leaf_of, leaf_reads, settled, compared_parts, compared_outcomes, puts_atom, acts, scale_down, MoveOutcome, move_ends, move_bent, move, moved, moved_by, move_of, move_reads, written, are_clean}
 use Rattle.ground_action.specs.GroundAction as action
 use Rattle.ground_action.specs.GroundAction.{numbers_where, assigns_it, all_reads, is_read, same_literal, literal_row, leaves_of, moves_of, move_in, may_hold, may_move, is_kept, is_target_numbered, is_literal_numbered, is_numbered}
-use Rattle.ground_action.specs.Work.{work_of, is_part, condition_made, condition_ops, effect_ops, until_end, literal_may_hold, cond_has_values, effect_has_values, is_begun, expression_ops, comparison_ops, func_ops, part_ops, instance_ops}
+use Rattle.ground_action.specs.Work.{is_part, condition_made, condition_ops, until_end, literal_may_hold, is_begun, expression_ops, part_ops, instance_ops}
 use Rattle.ground_action.proofs.WorkLaws.{work_is}
-use Rattle.ground_parts.specs.declared.part.Part.{Part as Form}
-use Rattle.ground_parts.specs.Forms.{form_of, part_made}
+use Rattle.ground_parts.specs.Forms.{part_made}
 use Rattle.ground_draft.specs.declared.draft.Draft.{Draft}
 use Rattle.ground_draft.specs.declared.leaves.Leaf.{Leaf}
 use Rattle.ground_draft.specs.declared.moves.Move.{Move}
 use Rattle.ground_draft.specs.Drafts.{over_atoms, is_missing, draft_of, kept_draft}
 use Rattle.ground_draft.specs.inside.Rising.{rising}
 use Rattle.ground_draft.specs.inside.Made.{sides_made, leaf_made, leaf_holds, acts_made, on_func, move_made, with_first, all_made}
-use Rattle.ground_draft.specs.inside.Acts.{rows_at}
-use Rattle.ground_draft.specs.inside.Lists.{if_missing, literals_in, comparisons_in, added_in, deleted_in, changed_in, condition_reads, change_reads, instance_reads, assigned_at, assigned_in}
-use Rattle.ground_draft.specs.inside.Assembly.{drafted, drafted_ops, held_draft, held_ops, moved_draft, moved_ops, effects_ops, left_draft, left_ops, made_draft, made_ops}
+use Rattle.ground_draft.specs.inside.Lists.{if_missing, literals_in, condition_reads, change_reads, instance_reads, assigned_in}
+use Rattle.ground_draft.specs.inside.Assembly.{drafted, drafted_ops, moved_draft, moved_ops, effects_ops, left_draft, left_ops, made_draft, made_ops}
 use Rattle.ground_draft.proofs.Finishing.{no_reads}
 use Rattle.ground_draft.proofs.Places.{rising_where}
 use Rattle.ground_draft.proofs.Acting.{form_act, form_move, divides, target_listed}

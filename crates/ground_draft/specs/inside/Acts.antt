@@ -1,5 +1,5 @@
 -- Changes of functions by number, as the specification's acts on parts of which what they read is forgotten.
-use Rattle.std.specs.Prelude.{ℕ, Bool, true, false, pos, ◌==◌, List, [], ◌∷◌, ◌++◌, Option, Some, None, if◌then◌else◌}
+use Rattle.std.specs.Prelude.{ℕ, Bool, true, false, pos, ◌==◌, List, [], ◌∷◌, ◌++◌, if◌then◌else◌}
 use Rattle.std.specs.List.{list_all}
 use Rattle.rational.specs.Fraction.{Fraction, whole, neg_ℚ, ◌+ℚ◌, inv_ℚ}
 use Rattle.frac128.specs.declared.operations.Wide.{Wide}

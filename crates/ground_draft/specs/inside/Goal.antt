@@ -1,6 +1,6 @@
 -- The goal's draft, leaf by leaf.
-use Rattle.std.specs.Prelude.{ℕ, Bool, true, false, pos, ◌==◌, List, [], ◌∷◌, ◌++◌, Option, Some, None, if◌then◌else◌}
-use Rattle.rational.specs.Fraction.{Fraction, whole}
+use Rattle.std.specs.Prelude.{ℕ, Bool, pos, ◌==◌, List, [], ◌∷◌, ◌++◌, Option, Some, None, if◌then◌else◌}
+use Rattle.rational.specs.Fraction.{whole}
 use Rattle.frac128.specs.declared.operations.Wide.{Wide}
 use Rattle.lin.specs.Linear.{Linear, fixed}
 use Rattle.lin.specs.declared.comparison.Cmp.{Cmp}

@@ -1,11 +1,10 @@
 -- The lists of a draft.
-use Rattle.std.specs.Prelude.{ℕ, Bool, true, false, not, ◌&&◌, List, [], ◌∷◌, ◌++◌, Option, Some, None, if◌then◌else◌}
-use Rattle.std.specs.List.{list_any, flat_map, filter_map}
+use Rattle.std.specs.Prelude.{ℕ, Bool, true, false, not, List, [], ◌∷◌, ◌++◌, Option, Some, None, if◌then◌else◌}
+use Rattle.std.specs.List.{flat_map, filter_map}
 use Rattle.lin.specs.Linear.{Linear}
 use Rattle.lin.specs.declared.comparison.Cmp.{Cmp}
 use Rattle.frac128.specs.declared.operations.Wide.{Wide}
 use Rattle.task_core.specs.Step.{is_in}
-use Rattle.pddl_task.specs.declared.condition.Rel.{Rel}
 use Rattle.pddl_task.specs.declared.condition.Cond.{Cond}
 use Rattle.pddl_task.specs.declared.condition.Cond.TheVariants as cond
 use Rattle.pddl_task.specs.declared.effect.Effect.{Effect}
@@ -31,8 +30,6 @@ use Rattle.ground_parts.specs.Forms.{comparison_made}
 use Rattle.ground_draft.specs.Drafts.{is_missing}
 use Rattle.ground_draft.specs.declared.leaves.Leaf.{Leaf}
 use Rattle.ground_draft.specs.declared.leaves.Leaf.TheVariants.{Nothing, Literal, Sides}
-use Rattle.ground_draft.specs.declared.moves.Act.{Act}
-use Rattle.ground_draft.specs.declared.moves.Act.TheVariants.{Assign, Increase, Decrease, ScaleUp, ScaleDown}
 use Rattle.ground_draft.specs.declared.moves.Move.{Move}
 use Rattle.ground_draft.specs.declared.moves.Move.TheVariants.{Put, Change}
 use Rattle.ground_draft.specs.inside.Running.{run, ops_run}

@@ -1,8 +1,7 @@
 -- What is made of the leaves of an instance: as the specification's leaves and moves, but by numbers, and without what parts
 -- read.
-use Rattle.std.specs.Prelude.{ℕ, Bool, true, ◌==◌, List, [], ◌∷◌, Option, Some, None, if◌then◌else◌}
+use Rattle.std.specs.Prelude.{ℕ, Bool, true, List, [], ◌∷◌, Option, Some, None, if◌then◌else◌}
 use Rattle.rational.specs.Fraction.{Fraction}
-use Rattle.frac128.specs.declared.operations.Wide.{Wide}
 use Rattle.pddl_task.specs.declared.condition.Cond.{Cond}
 use Rattle.pddl_task.specs.declared.condition.Cond.TheVariants as cond
 use Rattle.pddl_task.specs.declared.condition.Rel.{Rel}
@@ -19,7 +18,7 @@ use Rattle.ground_action.specs.Parts as spec
 use Rattle.ground_action.specs.Work.{work_of}
 use Rattle.ground_parts.specs.declared.part.Part.{Part}
 use Rattle.ground_parts.specs.declared.part.Part.TheVariants.{Constant, Linear as Line}
-use Rattle.ground_parts.specs.Forms.{form_of, part_made}
+use Rattle.ground_parts.specs.Forms.{part_made}
 use Rattle.ground_draft.specs.declared.leaves.Leaf.{Leaf}
 use Rattle.ground_draft.specs.declared.leaves.Leaf.TheVariants.{Nothing, Literal, Sides}
 use Rattle.ground_draft.specs.declared.moves.Act.{Act}

@@ -3,7 +3,7 @@ use Rattle.std.proofs.lemmas.Result.{err_from_is_err_and}
 use Rattle.ground_parts.specs.Forms.{setting_in}
 use Rattle.ground_draft.specs.inside.Lists.{condition_reads}
 use Rattle.ground_draft.specs.inside.Goal.{next_target, target_ops, with_target}
-use Rattle.ground_draft.proofs.Loops.{running-start, running-refused, running-next, running-done}
+use Rattle.ground_draft.proofs.Loops.{running-refused, running-next, running-done}
 use Rattle.ground_draft.proofs.goal.all_targets.Goals as goal
 
 pub returns-in_err-next : goal.returns-in_err-next

@@ -1,7 +1,5 @@
-use Rattle.std.proofs.Common.{sym, ◌∙◌, Option, Some, List, ap, subst}
-use Rattle.lin.specs.Operations.{AnswersInMemory}
+use Rattle.std.proofs.Common.{sym, ◌∙◌, Some, ap}
 use Rattle.ground_parts.specs.Forms.{setting_in}
-use Rattle.ground_draft.specs.declared.moves.Move.{Move}
 use Rattle.ground_draft.specs.inside.Assembly.{moved_ops, moved_draft}
 use Rattle.ground_draft.proofs.Then.{some_answers}
 use Rattle.ground_draft.proofs.instance.left.Goals as goal

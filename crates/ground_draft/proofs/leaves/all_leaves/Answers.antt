@@ -1,8 +1,6 @@
 use Rattle.std.proofs.Common.{sym, ◌∙◌}
 use Rattle.std.proofs.lemmas.Result.{err_from_is_err_and}
-use Rattle.ground_action.specs.Work.{condition_ops, condition_made}
 use Rattle.ground_parts.specs.Forms.{setting_in}
-use Rattle.ground_draft.specs.inside.Made.{leaf_made}
 use Rattle.ground_draft.proofs.Loops.{making-start, making-refused, making-next, making-none, making-done}
 use Rattle.ground_draft.proofs.Whole.{condition_agrees}
 use Rattle.ground_draft.proofs.leaves.all_leaves.Goals as goal

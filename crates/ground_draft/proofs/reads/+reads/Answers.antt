@@ -1,4 +1,4 @@
-use Rattle.std.proofs.Common.{ap, length, ◌-◌, arith}
+use Rattle.std.proofs.Common.{ap, arith}
 use Rattle.plan_step.proofs.Depth.{depth_of, deepest, add_is_deeper, mul_is_deeper, neg_is_deeper, sub_is_deeper, div_is_deeper, deepest-get}
 use Rattle.ground_parts.specs.Forms.{setting_in}
 use Rattle.ground_draft.proofs.ReadSteps.{as_read, by_num, by_call, by_add, by_mul, by_neg, by_sub, by_div}

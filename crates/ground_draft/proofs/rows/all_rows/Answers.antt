@@ -1,7 +1,7 @@
 use Rattle.std.proofs.Common.{ap, ◌∙◌}
 use Rattle.std.proofs.lemmas.Result.{err_from_is_err_and}
 use Rattle.ground_draft.specs.inside.Acts.{next_row, row_ops_at, with_row}
-use Rattle.ground_draft.proofs.Loops.{same_item, running-start, running-refused, running-next, running-done}
+use Rattle.ground_draft.proofs.Loops.{same_item, running-refused, running-next, running-done}
 use Rattle.ground_draft.proofs.rows.all_rows.Goals as goal
 
 pub returns-in_err-row : goal.returns-in_err-row
