@@ -35,7 +35,7 @@ def minisat(folder, booleans, clauses):
 
 
 def main():
-    formulas = [(f"threshold {n}, {seed}", threshold(n, seed)) for n in (50, 75, 100, 125) for seed in (1, 2, 3)]
+    formulas = [(f"threshold {n}, {seed}", threshold(n, seed)) for n in (50, 75, 100, 125, 150, 175) for seed in (1, 2, 3)]
     formulas += [(f"{birds} birds, {birds - 1} holes", pigeons(birds, birds - 1)) for birds in (5, 6, 7, 8)]
     print(f"{'formula':20} {'answer':7} {'seconds':>8} {'steps':>7} {'minisat':>8} {'conflicts':>9}", flush=True)
     with tempfile.TemporaryDirectory() as name:
@@ -44,7 +44,7 @@ def main():
             seconds, answer, steps = ours(folder, booleans, clauses)
             other, truth, conflicts = minisat(folder, booleans, clauses)
             mark = "" if truth in ("-", answer) else f"  MiniSat says {truth}"
-            print(f"{label:20} {answer:7} {seconds:8.2f} {steps.strip():>7} {other:8.2f} {conflicts:>9}{mark}", flush=True)
+            print(f"{label:20} {answer:7} {seconds:8.2f} {steps.strip():>7} {other:8.3f} {conflicts:>9}{mark}", flush=True)
 
 
 main()

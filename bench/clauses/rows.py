@@ -70,6 +70,14 @@ def rows():
         yield f"pigeons_fails_at_{k}", 12, MANY, k, "stopped", pigeons(4, 3)[1]
 
 
+# a letter for each Boolean, a for an atom and t for a truth variable: the theory without atoms names the first atom
+STARTS = {"truths": "tt", "atoms": "aaaaaaa", "atom_behind": "ttat"}
+
+# over a theory whose check k refuses, k from 0: 2k for spent pivots, 2k + 1 for an operation that passes. The theory is asked
+# once before the one decision that the first formula needs, and once with both Booleans assigned; propagation refutes the second
+EITHER, NEITHER = (2, [(1, 2)]), (2, [(-1, -2), (1,), (2,)])
+REFUSALS = [("first", EITHER, 0, "pivots"), ("first_wide", EITHER, 1, "wide"), ("second", EITHER, 2, "pivots"), ("second_wide", EITHER, 3, "wide"), ("third", EITHER, 4, "sat"), ("unasked", NEITHER, 0, "unsat")]
+
 MANY = 1_000_000
 
 
@@ -81,6 +89,17 @@ def main():
         for name, booleans, steps, fails_at, answer, clauses in rows():
             data.write(f"{name} | {booleans} | {steps} | {fails_at} | {text(clauses)}\n")
             answers.write(f"{name} | {answer}\n")
+        for name, letters in STARTS.items():
+            first = letters.find("a")
+            answers.write(f"{name} | {'started' if first < 0 else f'not mine {first}'}\n")
+        for name, _formula, _check, answer in REFUSALS:
+            answers.write(f"{name} | {answer}\n")
+    with open(crate / "data" / "starts.rows", "w") as data:
+        data.write("# Made by bench/clauses/rows.py: a letter for each Boolean, a for an atom and t for a truth variable.\nframe start | $1\n")
+        data.writelines(f"{name} | {letters}\n" for name, letters in STARTS.items())
+    with open(crate / "data" / "refusals.rows", "w") as data:
+        data.write("# Made by bench/clauses/rows.py: Booleans, steps of the log, which check refuses and why, and clauses.\nframe refuse | $1 | $2 | $3 | $4\n")
+        data.writelines(f"{name} | {booleans} | {MANY} | {check} | {text(clauses)}\n" for name, (booleans, clauses), check, _ in REFUSALS)
 
 
 if __name__ == "__main__":

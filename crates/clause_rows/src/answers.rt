@@ -1,29 +1,49 @@
 //! What the core answers of a row. The row's texts are the number of Booleans, the steps that the log may have, the step at
-//! which the sink fails, counted from 0, and the clauses.
+//! which the sink fails, counted from 0, and the clauses; of a row of a theory that refuses, in place of the sink's step twice the
+//! number of the check that does, and one more where an operation passes there.
 use crate::checker::Checker;
 use crate::reading::read_formula;
+use crate::refusing::Refusing;
+use crate::starting::start_on;
 use clause_core::{Core, CoreFail, Outcome};
 use formula::Formula;
 use std::alloc::{AllocError, Global};
 use std::str;
 use theory_law::{NoTheory, Theory};
 
+/// More steps than any row has.
+const MANY: u64 = 1_000_000;
+
 /// The answer of a row: `sat` where a point is found, `unsat` where the log has the empty clause, `spent` where its steps are
 /// spent, and `stopped` where the sink failed. It says `wrong` behind that where the checker finds a fault. The call `count`
-/// also says how many steps there were.
+/// also says how many steps there were, and the call `start` tells where the theory starts on a row of letters.
 pub fn answer(alloc: Global, call: &str, texts: &[Vec<u8>]) -> Result<String, AllocError> {
+    if call == "start" {
+        return start_row(alloc, texts);
+    }
     let Some(row) = read_row(texts) else {
         return String::from_str(alloc, "not a row");
     };
     let Some(formula) = read_formula(alloc, row.booleans, row.clauses)? else {
         return String::from_str(alloc, "no formula");
     };
-    let found = solve(alloc, formula, row.steps, row.fails_at)?;
+    let found = if call == "refuse" {
+        solve::<Refusing>(alloc, formula, row.steps, MANY, row.fails_at)?
+    } else {
+        solve::<NoTheory>(alloc, formula, row.steps, row.fails_at, 1)?
+    };
     let judged = if found.is_wrong { " wrong" } else { "" };
     if call == "count" {
         return format!(in alloc; "{}{judged} {}", found.answer, found.steps);
     }
     format!(in alloc; "{}{judged}", found.answer)
+}
+
+fn start_row(alloc: Global, texts: &[Vec<u8>]) -> Result<String, AllocError> {
+    match texts {
+        [letters] => start_on(alloc, letters.as_slice()),
+        _ => String::from_str(alloc, "not a row"),
+    }
 }
 
 #[derive(Drop)]
@@ -57,10 +77,16 @@ struct Found {
     steps: u64,
 }
 
-/// Solves the formula, and judges the log, the empty clause and the point.
-fn solve(alloc: Global, formula: Formula, steps: u64, fails_at: u64) -> Result<Found, AllocError> {
+/// Solves the formula over a theory, and judges the log, the empty clause and the point.
+fn solve<T: Theory>(
+    alloc: Global,
+    formula: Formula,
+    steps: u64,
+    fails_at: u64,
+    pivots: u64,
+) -> Result<Found, AllocError> {
     let mut checker = Checker::new(alloc, &formula, fails_at)?;
-    let Ok(theory) = NoTheory::start(alloc, &formula, 1) else {
+    let Ok(theory) = T::start(alloc, &formula, pivots) else {
         return Ok(Found {
             answer: "not started",
             is_wrong: false,
@@ -73,7 +99,9 @@ fn solve(alloc: Global, formula: Formula, steps: u64, fails_at: u64) -> Result<F
         Ok(Outcome::Empty) => ("unsat", checker.is_empty()),
         Err(CoreFail::Steps) => ("spent", checker.steps == steps),
         Err(CoreFail::Sink) => ("stopped", checker.steps == fails_at),
-        Err(_fail) => ("refused", true),
+        Err(CoreFail::Wide(_trace)) => ("wide", true),
+        Err(CoreFail::Pivots(_trace)) => ("pivots", true),
+        Err(CoreFail::Memory) => ("memory", true),
     };
     Ok(Found {
         answer,

@@ -5,6 +5,8 @@
 mod answers;
 mod checker;
 mod reading;
+mod refusing;
+mod starting;
 
 use answers::answer;
 use row_files::{Answers, answer_files};
