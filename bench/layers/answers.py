@@ -2,7 +2,7 @@
 """Prints what crates/layer_rows is to answer, which stands in its `stdout`: the answers of the rows of its `data`.
 
 Everything is computed from the definitions in words, with unlimited integers, one whole layer after the other: the conditions of
-a ground task, the layers, the named operations, the pattern. No answer comes from the program under test.
+a ground task, the layers, the named operations, the pattern, the formula of n copies (`bench/encoding.py`). No answer comes from the program under test.
 """
 from fractions import Fraction
 from pathlib import Path
@@ -12,6 +12,7 @@ import sys
 BENCH = Path(__file__).resolve().parents[1]
 sys.path.append(str(BENCH))
 from fractions128 import MOST, Wide, add, mul, show
+from encoding import encode, shown
 
 DATA = BENCH.parent / "crates/layer_rows/data"
 
@@ -215,7 +216,7 @@ def named(layer, action, part, compute):
 # ---- answers
 
 
-def answer(call, text):
+def answer(call, text, copies=None):
     try:
         task = Task(text)
         if not task.is_one():
@@ -225,10 +226,14 @@ def answer(call, text):
             values = "".join(("none" if value is None else show(value)) + " " for value in task.values)
             rolls = "".join(" roll" if a.rolls() else " once" for a in task.actions)
             return f"atoms {truths}; funcs {values}; goal {len(task.goal.lits)} {len(task.goal.cmps)}; actions{rolls}"
+        if call == "formula" and (not re.fullmatch("[0-9]+", copies) or int(copies) > 1000):
+            return "form"
         first = layers(task)
         if call == "layers":
             return "layers" + "".join(f" {'-' if n is None else n}" for n in first)
         places = sorted((n, a) for a, n in enumerate(first) if n is not None)
+        if call == "formula":
+            return shown(encode(task, [a for _, a in places], int(copies)))
         return "pattern" + "".join(f" {'roll' if task.actions[a].rolls() else 'once'} {a}" for _, a in places)
     except Form:
         return "form"
@@ -236,11 +241,11 @@ def answer(call, text):
         return " ".join(wide.args)
 
 
-for name in ("tasks", "patterns", "layers"):
+for name in ("tasks", "patterns", "layers", "formulas"):
     call = ""
     for line in (DATA / f"{name}.rows").read_text().splitlines():
         if line.startswith("frame "):
             call = line[6:].split("|")[0].strip()
         elif line and not line.startswith("#"):
-            row, text = (part.strip() for part in line.split("|"))
-            print(f"{row} | {answer(call, text.replace(chr(92) + 'M', str(MOST)))}")
+            row, *texts = (part.strip().replace(chr(92) + "M", str(MOST)) for part in line.split("|"))
+            print(f"{row} | {answer(call, *texts)}")

@@ -4,9 +4,8 @@ use Rattle.std.specs.Prelude.{ℕ, ◌+◌, Bool, if◌then◌else◌, List, [],
 use Rattle.std.specs.List.{flat_map}
 use Rattle.std.specs.Fmt.{decimal}
 use Rattle.frac128.specs.Text.{text_of}
-use Rattle.frac128.specs.declared.operations.Op.{Op}
-use Rattle.frac128.specs.declared.operations.Op.TheVariants as op
 use Rattle.frac128.specs.declared.operations.Wide.{Wide}
+use Rattle.operation_text.specs.Operation.{operation_text}
 use Rattle.rational.specs.Fraction.{Fraction}
 use Rattle.formula.specs.declared.atom.Lit.{Lit}
 use Rattle.formula.specs.declared.point.Point.{Point}
@@ -33,12 +32,6 @@ truth_digit t = if t then 49 else 48
 
 abbrev pub swap_text : Swap → List ℕ
 swap_text s = number_text s.leave ++ (codes ":" ++ number_text s.enter)
-
-abbrev pub operator_text : Op → List ℕ
-operator_text op.Add = codes "add"
-operator_text op.Sub = codes "sub"
-operator_text op.Mul = codes "mul"
-operator_text op.Div = codes "div"
 
 -- each word behind a space
 abbrev pub each : {X : Type 0} → (X → List ℕ) → List X → List ℕ
@@ -67,10 +60,10 @@ log_lines log = flat_map step_line log
 
 -- ---- the end of a block where a check of the simplex got stuck
 
--- behind the operation's site
-abbrev pub operation_text : Option Wide → List ℕ
-operation_text None = []
-operation_text (Some w) = codes " " ++ (operator_text w.op ++ (codes " " ++ (text_of w.x ++ (codes " " ++ text_of w.y))))
+-- the operation that passes, behind its site
+abbrev pub passing_text : Option Wide → List ℕ
+passing_text None = []
+passing_text (Some w) = codes " " ++ operation_text w
 
 abbrev pub site_text : Site → List ℕ
 site_text site.Pivots = codes "pivots"
@@ -98,4 +91,4 @@ evidence_lines site.Point t = pivoting_lines t
 evidence_lines site.Farkas t = stuck_lemma t.lemma
 
 abbrev pub trace_lines : Trace → List ℕ
-trace_lines t = codes "unknown " ++ (site_text t.site ++ (operation_text t.wide ++ (codes "\n" ++ evidence_lines t.site t)))
+trace_lines t = codes "unknown " ++ (site_text t.site ++ (passing_text t.wide ++ (codes "\n" ++ evidence_lines t.site t)))

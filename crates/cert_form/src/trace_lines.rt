@@ -1,36 +1,22 @@
 //! The end of a block where a check of the simplex got stuck. Begin with `write_trace`.
 ghost use Rattle.std.specs.Prelude.{◌≡◌, ◌++◌, codes, OnOk, OnErr};
-ghost use Rattle.cert_form.specs.Spelling.{swap_text, each, operator_text, operation_text, site_text, pivoting_lines, evidence_lines, trace_lines};
+ghost use Rattle.cert_form.specs.Spelling.{swap_text, each, passing_text, site_text, pivoting_lines, evidence_lines, trace_lines};
 
 use crate::step_lines::put_lemma;
 use crate::words::{put_literals, put_number, put_numbers};
-use frac128::{Op, Wide};
+use frac128::Wide;
+use operation_text::write_operation;
 use std::alloc::AllocError;
 use theory_law::{Site, Swap, Trace};
 
-fn operator_word(op: Op) -> &'static [u8]
-    ensures { result.now ≡ operator_text op }
-{
-    match op {
-        Op::Add => b"add",
-        Op::Sub => b"sub",
-        Op::Mul => b"mul",
-        Op::Div => b"div",
-    }
-}
-
 fn put_operation(wide: &Option<Wide>, into: &mut Vec<u8>) -> Result<(), AllocError>
-    ensures { OnOk result (into.new.items ≡ into.old.items ++ operation_text wide.now) }
+    ensures { OnOk result (into.new.items ≡ into.old.items ++ passing_text wide.now) }
 {
     let Some(wide) = wide else {
         return Ok(());
     };
     into.extend_from_slice(b" ")?;
-    into.extend_from_slice(operator_word(wide.op))?;
-    into.extend_from_slice(b" ")?;
-    wide.x.to_text(into)?;
-    into.extend_from_slice(b" ")?;
-    wide.y.to_text(into)
+    write_operation(wide, into)
 }
 
 fn site_words(site: Site) -> &'static [u8]

@@ -1,10 +1,5 @@
-pub mod Passing
-pub mod RoundingLaws
-pub mod BoundLaws
-pub mod RowClauses
-pub mod Joining
-pub mod Standing
-pub mod LiteralLaws
-pub mod ComparisonLaws
-pub mod AskedRows
-pub mod ChangeLaws
+pub mod OccurringLaws
+pub mod StartingLaws
+pub mod CopyingLaws
+pub mod EncodingLaws
+pub mod CountingLaws

@@ -1,4 +1,2 @@
-pub mod Bounds
-pub mod Literals
-pub mod Clauses
+pub mod Answer
 pub mod inside

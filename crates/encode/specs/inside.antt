@@ -1,3 +1,4 @@
-pub mod Standing
-pub mod Symbols
-pub mod Changing
+pub mod Occurring
+pub mod Starting
+pub mod Copying
+pub mod Counting

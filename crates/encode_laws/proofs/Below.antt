@@ -318,7 +318,7 @@ module _ (i : ℕ) (a : GAction) (y : Symbolic) (b : SymbolicBelow y.next y) whe
       roll true e fb bn = rolled-below (first_set a y.next) (on_front i a y) fb y bn a.incs (counted_below (rollable-counts a e)) a.cmps
       roll false e fb bn = tt
 
-  after-below : SymbolicBelow (next_after a y.next) (symbolic_after i a y)
+  pub after-below : SymbolicBelow (next_after a y.next) (symbolic_after i a y)
   after-below = record {
     truth = λ p. literal-later (first_set a y.next) (next_after a y.next) (omega arith) (symbolic_truth i (on_of i a y) a y p)
         (symbolic_truth-below (first_set a y.next) i (on_of i a y) on-below y (symbolic-later y.next (first_set a y.next) first_le y b) a p);

@@ -12,6 +12,7 @@ pub mod ClauseLaws
 pub mod Making
 pub mod MadeLaws
 pub mod Below
+pub mod MadeFormula
 pub mod Readings
 pub mod FormulaLaws
 pub mod Spelling

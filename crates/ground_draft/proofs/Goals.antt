@@ -99,7 +99,7 @@ module _ (set : Setting) (args : List ℕ) where
   has_steps (Expr-F.Sub a b) = λ h. let both = with_parts_are minus_part _ _ h in ap₂ ◌&&◌ (a.1 both.0) (b.1 both.1)
   has_steps (Expr-F.Div a b) = λ h. let both = with_parts_are divided _ _ h in ap₂ ◌&&◌ (a.1 both.0) (b.1 both.1)
 
-  part_has : (e : Expr) → is_part (part_of set args e) ≡ true → has_values set args e ≡ true
+  pub part_has : (e : Expr) → is_part (part_of set args e) ≡ true → has_values set args e ≡ true
   unfolding part_of all_calls
   part_has = fold_related (part_step set args) (call_step test) Has has_steps
 

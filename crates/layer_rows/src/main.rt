@@ -1,9 +1,10 @@
-//! Ground tasks as rows of data (`row_files`): for each row, this program prints what the public calls of `task_core`, `relaxed`
-//! and `pattern` answer. `tasks` has the form of a task. Begin with `answers`.
+//! Ground tasks as rows of data (`row_files`): for each row, this program prints what the public calls of `task_core`, `relaxed`,
+//! `pattern` and `encode` answer. `tasks` has the form of a task. Begin with `answers`.
 #![tactic(auto)]
 
 mod answers;
 mod expressions;
+mod formulas;
 mod refusal;
 mod shown;
 mod tasks;

@@ -14,12 +14,12 @@ use Rattle.plan_step.specs.Laws.{IsWide, IsRefutal, TellsWide}
 use Rattle.plan_step.proofs.LeafLaws.{tested_goal}
 use Rattle.plan_step.proofs.WideLaws.{wide_repetition, wide_goal}
 use Rattle.plan_step.proofs.RunLaws.{one_run, made_run, run_after, failed_wide}
-use Rattle.plan_text.specs.declared.plan.Part.{Part}
+use Rattle.plan_form.specs.declared.plan.Part.{Part}
 use Rattle.plan_judge.specs.declared.outcome.Outcome.{Outcome}
 use Rattle.plan_judge.specs.declared.outcome.Outcome.TheVariants as outcome
 use Rattle.plan_judge.specs.declared.outcome.PartFail.{PartFail}
 use Rattle.plan_judge.specs.Outcome.{part_fail, then_more, made_from, goal_outcome, end_outcome, outcome_of}
-use Rattle.plan_text.specs.Printed.{written_out}
+use Rattle.plan_form.specs.Printed.{written_out}
 use Rattle.plan_judge.specs.Written.{IsValid}
 use Rattle.plan_judge.specs.Laws.{SaysInvalid, MeansFail, Means}
 use Rattle.plan_judge.proofs.Parts.{made_none, made_next}

@@ -9,7 +9,7 @@ use Rattle.plan_step.specs.declared.failure.RepeatFail.{RepeatFail}
 use Rattle.plan_step.specs.State.{PlanState, initial}
 use Rattle.plan_step.specs.Repeat.{repeat_fail, repeated_from, RepeatFails}
 use Rattle.plan_step.specs.Conditions.{goal_met}
-use Rattle.plan_text.specs.declared.plan.Part.{Part}
+use Rattle.plan_form.specs.declared.plan.Part.{Part}
 use Rattle.plan_judge.specs.declared.outcome.PartFail.{PartFail}
 use Rattle.plan_judge.specs.Outcome.{part_fail, then_more, made_from, goal_outcome, end_outcome, outcome_of}
 

@@ -12,12 +12,12 @@ use Rattle.plan_step.specs.Conditions.{goal_met}
 use Rattle.plan_step.specs.Meaning.{Run}
 use Rattle.plan_step.proofs.Reasons.{failure_reason}
 use Rattle.plan_step.proofs.RunLaws.{made_run, failed_after}
-use Rattle.plan_text.specs.declared.plan.Part.{Part}
+use Rattle.plan_form.specs.declared.plan.Part.{Part}
 use Rattle.plan_judge.specs.declared.outcome.PartFail.{PartFail}
 use Rattle.plan_judge.specs.declared.outcome.Outcome.{Outcome}
 use Rattle.plan_judge.specs.declared.outcome.Outcome.TheVariants as outcome
 use Rattle.plan_judge.specs.Outcome.{part_fail, then_more, made_from, goal_outcome, end_outcome, outcome_of}
-use Rattle.plan_text.specs.Printed.{written_out}
+use Rattle.plan_form.specs.Printed.{written_out}
 use Rattle.plan_judge.specs.Course.{IsFirstFailure, IsTested, ComesTo}
 use Rattle.plan_judge.proofs.Parts.{made_none, made_next}
 use Rattle.plan_judge.proofs.Judgements.{parts_run, end_valid, end_fails, end_past}

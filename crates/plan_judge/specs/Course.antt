@@ -7,11 +7,11 @@ use Rattle.plan_step.specs.Step.{step_from}
 use Rattle.plan_step.specs.Conditions.{goal_met}
 use Rattle.plan_step.specs.Meaning.{Run}
 use Rattle.plan_step.specs.Reasons.{FailsBy}
-use Rattle.plan_text.specs.declared.plan.Part.{Part}
+use Rattle.plan_form.specs.declared.plan.Part.{Part}
 use Rattle.plan_judge.specs.declared.outcome.PartFail.{PartFail}
 use Rattle.plan_judge.specs.declared.outcome.Outcome.{Outcome}
 use Rattle.plan_judge.specs.declared.outcome.Outcome.TheVariants as outcome
-use Rattle.plan_text.specs.Printed.{written_out}
+use Rattle.plan_form.specs.Printed.{written_out}
 
 -- The parts in front of one have a run, with some of its repetitions after them, and the next step fails, by the reason
 -- that is told. Parts and repetitions are numbered from 1.

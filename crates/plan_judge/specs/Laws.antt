@@ -2,7 +2,7 @@
 use Rattle.std.specs.Prelude.{List}
 use Rattle.frac128.specs.Operations.{Passes}
 use Rattle.pddl_task.specs.declared.parts.TaskParts.{TaskParts}
-use Rattle.plan_text.specs.declared.plan.Part.{Part}
+use Rattle.plan_form.specs.declared.plan.Part.{Part}
 use Rattle.plan_judge.specs.Written.{IsValid}
 use Rattle.plan_step.specs.declared.failure.StepFail.{StepFail}
 use Rattle.plan_step.specs.declared.failure.StepFail.TheVariants as fail

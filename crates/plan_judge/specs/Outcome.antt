@@ -7,7 +7,7 @@ use Rattle.plan_step.specs.declared.failure.RepeatFail.{RepeatFail}
 use Rattle.plan_step.specs.State.{PlanState, initial}
 use Rattle.plan_step.specs.Repeat.{repeated_from}
 use Rattle.plan_step.specs.Conditions.{goal_met}
-use Rattle.plan_text.specs.declared.plan.Part.{Part}
+use Rattle.plan_form.specs.declared.plan.Part.{Part}
 use Rattle.plan_judge.specs.declared.outcome.Outcome.{Outcome}
 use Rattle.plan_judge.specs.declared.outcome.Outcome.TheVariants as outcome
 use Rattle.plan_judge.specs.declared.outcome.PartFail.{PartFail}

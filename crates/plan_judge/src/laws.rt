@@ -1,11 +1,11 @@
 //! Laws: what an outcome means in unlimited fractions. Each stands as a function with an empty body, whose clause is the law.
 ghost use Rattle.std.specs.Prelude.{◌≡◌, List, Ok};
 ghost use Rattle.pddl_task.specs.declared.parts.TaskParts.{TaskParts};
-ghost use Rattle.plan_text.specs.declared.plan.Part.{Part};
+ghost use Rattle.plan_form.specs.declared.plan.Part.{Part};
 ghost use Rattle.plan_step.specs.State.{PlanState, initial};
 ghost use Rattle.plan_step.specs.Meaning.{Run};
 ghost use Rattle.plan_judge.specs.Outcome.{made_from, outcome_of};
-ghost use Rattle.plan_text.specs.Printed.{written_out};
+ghost use Rattle.plan_form.specs.Printed.{written_out};
 ghost use Rattle.plan_step.specs.Laws.{IsRefutal};
 ghost use Rattle.plan_judge.specs.Written.{IsValid};
 ghost use Rattle.plan_judge.specs.Laws.{SaysInvalid};

@@ -1,13 +1,14 @@
 //! Plans: what their texts are read as, how they are written, how many steps they have, and what judging them comes to.
 ghost use Rattle.std.specs.Prelude.{IfOk};
-ghost use Rattle.plan_text.specs.Printed.{IsPlanOf};
+ghost use Rattle.plan_form.specs.Printed.{IsPlanOf};
 
 use crate::failures::show_fail;
 use patty_io::LIMIT;
 use pddl_task::Task;
 use plan_judge::{Outcome, PartFail, judge_plan};
 use plan_step::{RepeatFail, StepFail};
-use plan_text::{Part, Plan, PlanRefusal, flat_len, read_plan, write_part, write_plan};
+use plan_form::{Part, Plan, flat_len, write_part, write_plan};
+use plan_text::{PlanRefusal, read_plan};
 use row_files::{add_shown, show_fault, show_wide};
 use std::alloc::{AllocError, Global};
 

@@ -6,11 +6,11 @@ use Rattle.pddl_form.specs.Judged.{Judged, good, bad, syntax_of}
 use Rattle.pddl_form.specs.Reading.{IsRead}
 use Rattle.pddl_form.proofs.Concluding.{has_outcome}
 use Rattle.pddl_task.specs.declared.parts.TaskParts.{TaskParts}
-use Rattle.plan_text.specs.declared.plan.Part.{Part}
+use Rattle.plan_form.specs.declared.plan.Part.{Part}
 use Rattle.plan_text.specs.declared.refusal.PlanRefusal.{PlanRefusal}
 use Rattle.plan_text.specs.declared.refusal.PlanRefusal.TheVariants as refusal
 use Rattle.plan_text.specs.PlanText.{Names, names_of, plan_judged, ReadsPlan}
-use Rattle.plan_text.specs.Printed.{IsPlanOf}
+use Rattle.plan_form.specs.Printed.{IsPlanOf}
 use Rattle.plan_text.specs.inside.Finishing.{IsOutcome, Finishes}
 use Rattle.plan_text.proofs.GoodPlans.{good_is_counted, good_is_plan_of}
 

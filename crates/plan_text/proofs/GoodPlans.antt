@@ -17,11 +17,11 @@ use Rattle.pddl_form.specs.Judged.{Judged, good, bad, mapped, both, each}
 use Rattle.pddl_form.specs.Gather.{joined}
 use Rattle.pddl_task.specs.declared.instance.Instance.{Instance}
 use Rattle.pddl_task.specs.declared.parts.TaskParts.{TaskParts}
-use Rattle.plan_text.specs.declared.plan.Part.{Part}
+use Rattle.plan_form.specs.declared.plan.Part.{Part}
 use Rattle.plan_text.specs.Lines.{Line, lines_from, code_of, first_place, has_foreign}
 use Rattle.plan_text.specs.Written.{Call, Written, is_count, call_of, counted, written}
 use Rattle.plan_text.specs.PlanText.{Names, names_of, malformed, is_miscount, count_judged, found_at, numbered, instance_with, call_judged, part_with, part_judged, only, form_judged, code_judged, line_judged, plan_judged}
-use Rattle.plan_text.specs.Printed.{is_part_of, AreCounted, IsPlanOf}
+use Rattle.plan_form.specs.Printed.{is_part_of, AreCounted, IsPlanOf}
 
 -- ---- what is good
 

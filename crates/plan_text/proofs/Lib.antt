@@ -3,7 +3,6 @@ pub mod Counts
 pub mod Finishing
 pub mod GoodPlans
 pub mod LeastFault
-pub mod Lengths
 pub mod LineLaws
 pub mod LinesLaws
 pub mod Noting

@@ -14,7 +14,7 @@ use Rattle.pddl_form.specs.Gather.{option_both, push}
 use Rattle.pddl_form.proofs.Judging.{syntax_of-mapped, noted-mapped, noted-good, noted-bad}
 use Rattle.plan_text.specs.declared.line.Reading.{Reading}
 use Rattle.plan_text.specs.declared.piece.Piece.{Piece}
-use Rattle.plan_text.specs.declared.plan.Part.{Part}
+use Rattle.plan_form.specs.declared.plan.Part.{Part}
 use Rattle.plan_text.specs.Lines.{line_at, is_white_class, is_foreign_class}
 use Rattle.plan_text.specs.Written.{written}
 use Rattle.plan_text.specs.PlanText.{Names, malformed, only, part_judged, form_judged, code_judged, line_judged}

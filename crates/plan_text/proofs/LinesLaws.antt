@@ -11,7 +11,7 @@ use Rattle.pddl_form.specs.Reading.{IsRead}
 use Rattle.pddl_form.proofs.Judging.{joined-each-push}
 use Rattle.pddl_form.proofs.Loops.{read_good, read_as, read_both}
 use Rattle.plan_text.specs.declared.line.Reading.{Reading}
-use Rattle.plan_text.specs.declared.plan.Part.{Part}
+use Rattle.plan_form.specs.declared.plan.Part.{Part}
 use Rattle.plan_text.specs.Lines.{Line, line_at, longer, lines_from}
 use Rattle.plan_text.specs.PlanText.{Names, line_judged, plan_judged}
 use Rattle.plan_text.specs.inside.Extending.{Extends}

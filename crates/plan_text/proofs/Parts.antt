@@ -12,7 +12,7 @@ use Rattle.pddl_task.specs.declared.instance.Instance.{Instance}
 use Rattle.plan_text.specs.declared.piece.Kind.{Kind}
 use Rattle.plan_text.specs.declared.piece.Kind.TheVariants as kind
 use Rattle.plan_text.specs.declared.piece.Piece.{Piece}
-use Rattle.plan_text.specs.declared.plan.Part.{Part}
+use Rattle.plan_form.specs.declared.plan.Part.{Part}
 use Rattle.plan_text.specs.Written.{spot_at, is_count, closed_names, call_with, call_of, counted, after_count}
 use Rattle.plan_text.specs.PlanText.{Names, count_judged, call_judged, part_with, part_judged}
 use Rattle.plan_text.specs.inside.Pieces.{token_by, StandsFirst}

@@ -1,6 +1,6 @@
 -- What is written of a plan is read back.
 use Rattle.std.proofs.Common.{◌≡◌, ℕ, ◌+◌, ◌<◌, ◌^◌, ◌==◌, ◌&&◌, ◌||◌, Bool, true, false, List, [], ◌∷◌, ◌++◌, length, map, Option, Some, None, refl, sym, ◌∙◌, ap, arith, append_assoc}
-use Rattle.std.specs.Prelude.{if◌then◌else◌, codes, nat_le, nat_lt, slice_get, slice_index}
+use Rattle.std.specs.Prelude.{if◌then◌else◌, nat_le, nat_lt, slice_get, slice_index}
 use Rattle.std.specs.Fmt.{decimal}
 use Rattle.std.specs.List.{All, flat_map, list_all, list_any}
 use Rattle.std.specs.Str.Parse.{digits_value}
@@ -16,13 +16,12 @@ use Rattle.pddl_form.specs.Judged.{Judged, good, bad, mapped, both, each}
 use Rattle.pddl_form.specs.Gather.{joined}
 use Rattle.pddl_form.specs.Names.{is_name}
 use Rattle.pddl_task.specs.declared.parts.TaskParts.{TaskParts}
-use Rattle.plan_text.specs.declared.plan.Part.{Part}
+use Rattle.plan_form.specs.declared.plan.Part.{Part}
 use Rattle.plan_text.specs.Lines.{Line, line_at, first_place, lines_from, is_foreign_class}
 use Rattle.plan_text.specs.Written.{Call, Written, spot_at, with_name, closed_names, call_with, counted, written}
 use Rattle.plan_text.specs.PlanText.{names_of, malformed, miscounted, is_miscount, count_judged, found_at, numbered, instance_with, call_judged, part_with, part_judged, only, form_judged, code_judged, line_judged, plan_judged}
-use Rattle.plan_text.specs.Printed.{is_part_of, IsPlanOf, action_name, object_name, part_text, plan_text}
+use Rattle.plan_form.specs.Printed.{is_part_of, IsPlanOf, action_name, object_name, arguments_text, part_text, plan_text}
 use Rattle.plan_text.specs.Laws.{is_spelled, AreSpelled, HasTextCount}
-use Rattle.plan_text.specs.inside.Arguments.{arguments_text}
 use Rattle.plan_text.proofs.Spelling.{is_low, IsWord, word_then, spelled_word, spelled_at, name_at, IsCountText, decimal_count}
 use Rattle.plan_text.proofs.WrittenLines.{is_plain, all_code, none_foreign, plain_line}
 
@@ -89,13 +88,9 @@ part_code task part = decimal part.count ++ (32 ∷ 40 ∷ (action_name task par
 
 part_line : (task : TaskParts) (part : Part) (rest : List ℕ) → part_text task part ++ rest ≡ part_code task part ++ 10 ∷ rest
 part_line task part rest =
-    let name = action_name task part.by.action in
-    let args = arguments_text task part.by.args in
     let front = decimal part.count in
-    append_assoc front (codes " (" ++ (name ++ (args ++ codes ")\n"))) rest
-    ∙ ap (λ (l : List ℕ). front ++ (32 ∷ 40 ∷ l)) (append_assoc name (args ++ 41 ∷ 10 ∷ []) rest ∙ ap (λ (l : List ℕ). name ++ l) (append_assoc args (41 ∷ 10 ∷ []) rest))
-    ∙ sym (append_assoc front (32 ∷ 40 ∷ (name ++ ending task part.by.args)) (10 ∷ rest)
-    ∙ ap (λ (l : List ℕ). front ++ (32 ∷ 40 ∷ l)) (append_assoc name (ending task part.by.args) (10 ∷ rest) ∙ ap (λ (l : List ℕ). name ++ l) (append_assoc args (41 ∷ []) (10 ∷ rest))))
+    let call : List ℕ = 32 ∷ 40 ∷ (action_name task part.by.action ++ ending task part.by.args) in
+    append_assoc front (call ++ 10 ∷ []) rest ∙ ap (λ (l : List ℕ). front ++ l) (append_assoc call (10 ∷ []) rest) ∙ sym (append_assoc front call (10 ∷ rest))
 
 -- what its readers make of it
 record ReadsPart (task : TaskParts) (at : ℕ) (part : Part) : Type 0 where

@@ -8,7 +8,7 @@ use Rattle.pddl_form.specs.declared.fault.Fault.{Fault}
 use Rattle.pddl_form.specs.Judged.{faults_of}
 use Rattle.pddl_form.specs.Laws.{IsFirstOf}
 use Rattle.pddl_form.specs.Names.{is_name}
-use Rattle.plan_text.specs.declared.plan.Part.{Part}
+use Rattle.plan_form.specs.declared.plan.Part.{Part}
 use Rattle.plan_text.specs.PlanText.{Names, plan_judged}
 
 -- a name as texts spell it: a word in lower case that starts with a letter or an underline

@@ -10,7 +10,7 @@ use Rattle.pddl_form.specs.Judged.{Judged, good, bad, mapped, both, each, noted}
 use Rattle.pddl_form.specs.Gather.{joined}
 use Rattle.pddl_task.specs.declared.instance.Instance.{Instance}
 use Rattle.pddl_task.specs.declared.parts.TaskParts.{TaskParts}
-use Rattle.plan_text.specs.declared.plan.Part.{Part}
+use Rattle.plan_form.specs.declared.plan.Part.{Part}
 use Rattle.plan_text.specs.declared.refusal.PlanRefusal.{PlanRefusal}
 use Rattle.plan_text.specs.declared.refusal.PlanRefusal.TheVariants as refusal
 use Rattle.plan_text.specs.Lines.{Line, lines_from, code_of, first_place, has_foreign}

@@ -1,7 +1,6 @@
 -- What the clauses of private functions say. No public clause cites these files.
 pub mod Extending
 pub mod Finishing
-pub mod Arguments
 pub mod Numbering
 pub mod Pieces
 pub mod Steps

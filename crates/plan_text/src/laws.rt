@@ -3,9 +3,9 @@ ghost use Rattle.std.specs.Prelude.{◌≡◌, ℕ, List};
 ghost use Rattle.std.specs.List.{All};
 ghost use Rattle.pddl_form.specs.Judged.{good};
 ghost use Rattle.pddl_task.specs.declared.parts.TaskParts.{TaskParts};
-ghost use Rattle.plan_text.specs.declared.plan.Part.{Part};
+ghost use Rattle.plan_form.specs.declared.plan.Part.{Part};
 ghost use Rattle.plan_text.specs.PlanText.{Names, names_of, plan_judged, IsFirstFault};
-ghost use Rattle.plan_text.specs.Printed.{IsPlanOf, plan_text};
+ghost use Rattle.plan_form.specs.Printed.{IsPlanOf, plan_text};
 ghost use Rattle.plan_text.specs.Laws.{AreSpelled, HasTextCount, IsLeastFault};
 
 /// The fault that is answered has the least place of all faults of a text, and of those at its place the least kind.

@@ -3,16 +3,16 @@ ghost use Rattle.std.specs.Prelude.{◌≡◌, ◌==◌, ◌≤◌, None, length
 ghost use Rattle.std.specs.List.{position_or_len};
 ghost use Rattle.pddl_form.specs.Reading.{IsRead};
 ghost use Rattle.plan_text.specs.PlanText.{names_of, plan_judged, ReadsPlan};
-ghost use Rattle.plan_text.specs.Printed.{IsPlanOf};
+ghost use Rattle.plan_form.specs.Printed.{IsPlanOf};
 ghost use Rattle.plan_text.specs.inside.Finishing.{IsOutcome, Finishes};
 ghost use Rattle.plan_text.specs.inside.Tables.{names_in};
 
 use crate::line::Reading;
 use crate::names::NameTables;
-use crate::plan::Plan;
 use crate::refusal::PlanRefusal;
 use pddl_form::FirstFault;
 use pddl_task::Task;
+use plan_form::Plan;
 use sqlite_items::Items;
 use std::alloc::{AllocError, Global};
 

@@ -15,10 +15,10 @@ use Rattle.typing_names.specs.Problem.{ProblemParts, problem_names}
 use Rattle.typing_types.specs.Types.{domain_types, problem_types}
 use Rattle.typing_linear.specs.Linear.{domain_nonlinearities, goal_nonlinearities}
 use Rattle.typing.specs.Link.{task_of, passed, linear_task, problem_link, link_of}
-use Rattle.plan_text.specs.declared.plan.Part.{Part}
+use Rattle.plan_form.specs.declared.plan.Part.{Part}
 use Rattle.plan_text.specs.Laws.{AreSpelled, HasTextCount}
 use Rattle.plan_text.specs.PlanText.{names_of, plan_judged}
-use Rattle.plan_text.specs.Printed.{IsPlanOf, plan_text}
+use Rattle.plan_form.specs.Printed.{IsPlanOf, plan_text}
 use Rattle.plan_text.proofs.RoundTrip.{round_trip}
 use Rattle.patty_run.specs.Tasks.{IsDomain, IsProblem, IsTask}
 use Rattle.read_back.proofs.LowWords.{text_worded}

@@ -33,31 +33,37 @@ pub data Held (l : Limits) (x : Pair) (j : ℕ) (s : Fraction) : Type 0 where
   free : s ≡ whole (pos 0) → Held l x j s
 
 -- its reading, with the magnitude of s as factor
-abbrev part : (l : Limits) (x : Pair) (j : ℕ) (s : Fraction) → Terms → Held l x j s → List Row → List Row
+abbrev pub part : (l : Limits) (x : Pair) (j : ℕ) (s : Fraction) → Terms → Held l x j s → List Row → List Row
 part l x j s ts (up p b o m n) rows = upper_row b ts s ∷ rows
 part l x j s ts (down p b o m n) rows = lower_row b ts (neg_ℚ s) ∷ rows
 part l x j s ts (free z) rows = rows
 
+pub own_below : (n : ℕ) → n < suc n
+own_below n = omega arith
+
+pub still_below : (n j : ℕ) → j < n → j < suc n
+still_below n j m = omega arith
+
 module _ (l : Limits) (terms : ℕ → Terms) (place : ℕ → Pair) (s : ℕ → Fraction) where
   abbrev pub parts : (n : ℕ) → ((j : ℕ) → j < n → Held l (place j) j (s j)) → List Row
   parts zero h = []
-  parts (suc n) h = part l (place n) n (s n) (terms n) (h n (omega arith)) (parts n (λ j m. h j (omega arith)))
+  parts (suc n) h = part l (place n) n (s n) (terms n) (h n (own_below n)) (parts n (λ j m. h j (still_below n j m)))
 
   -- ---- the factors aren't negative, and each is a reading
   parts-not_negative : (n : ℕ) (h : (j : ℕ) → j < n → Held l (place j) j (s j)) → AllByRecursion (λ r. IsNotNegative r.factor) (parts n h)
   parts-not_negative zero h = tt
-  parts-not_negative (suc n) h = by_kind (h n (omega arith)) (parts-not_negative n (λ j m. h j (omega arith)))
+  parts-not_negative (suc n) h = by_kind (h n (own_below n)) (parts-not_negative n (λ j m. h j (still_below n j m)))
     where
-      by_kind : (a : Held l (place n) n (s n)) → AllByRecursion (λ r. IsNotNegative r.factor) (parts n (λ j m. h j (omega arith))) → AllByRecursion (λ r. IsNotNegative r.factor) (part l (place n) n (s n) (terms n) a (parts n (λ j m. h j (omega arith))))
+      by_kind : (a : Held l (place n) n (s n)) → AllByRecursion (λ r. IsNotNegative r.factor) (parts n (λ j m. h j (still_below n j m))) → AllByRecursion (λ r. IsNotNegative r.factor) (part l (place n) n (s n) (terms n) a (parts n (λ j m. h j (still_below n j m))))
       by_kind (up p b o m q) rest = (weaken_positive (s n) p, rest)
       by_kind (down p b o m q) rest = (weaken_positive (neg_ℚ (s n)) p, rest)
       by_kind (free z) rest = rest
 
   parts-readings : (n : ℕ) (h : (j : ℕ) → j < n → Held l (place j) j (s j)) → AllByRecursion (IsReading l terms) (parts n h)
   parts-readings zero h = tt
-  parts-readings (suc n) h = by_kind (h n (omega arith)) (parts-readings n (λ j m. h j (omega arith)))
+  parts-readings (suc n) h = by_kind (h n (own_below n)) (parts-readings n (λ j m. h j (still_below n j m)))
     where
-      by_kind : (a : Held l (place n) n (s n)) → AllByRecursion (IsReading l terms) (parts n (λ j m. h j (omega arith))) → AllByRecursion (IsReading l terms) (part l (place n) n (s n) (terms n) a (parts n (λ j m. h j (omega arith))))
+      by_kind : (a : Held l (place n) n (s n)) → AllByRecursion (IsReading l terms) (parts n (λ j m. h j (still_below n j m))) → AllByRecursion (IsReading l terms) (part l (place n) n (s n) (terms n) a (parts n (λ j m. h j (still_below n j m))))
       by_kind (up p b o m q) rest = ((n, b, inl (o, refl)), rest)
       by_kind (down p b o m q) rest = ((n, b, inr (o, refl)), rest)
       by_kind (free z) rest = rest
@@ -65,34 +71,34 @@ module _ (l : Limits) (terms : ℕ → Terms) (place : ℕ → Pair) (s : ℕ �
   -- ---- the sums
   parts-coefficient : (i : ℕ) (n : ℕ) (h : (j : ℕ) → j < n → Held l (place j) j (s j)) → total_coefficient i (parts n h) ≡ sum_below n (λ j. s j *ℚ coefficient_of i (terms j))
   parts-coefficient i zero h = refl
-  parts-coefficient i (suc n) h = by_kind (h n (omega arith)) (parts-coefficient i n (λ j m. h j (omega arith)))
+  parts-coefficient i (suc n) h = by_kind (h n (own_below n)) (parts-coefficient i n (λ j m. h j (still_below n j m)))
     where
-      by_kind : (a : Held l (place n) n (s n)) → total_coefficient i (parts n (λ j m. h j (omega arith))) ≡ sum_below n (λ j. s j *ℚ coefficient_of i (terms j))
-          → total_coefficient i (part l (place n) n (s n) (terms n) a (parts n (λ j m. h j (omega arith)))) ≡ sum_below n (λ j. s j *ℚ coefficient_of i (terms j)) +ℚ s n *ℚ coefficient_of i (terms n)
+      by_kind : (a : Held l (place n) n (s n)) → total_coefficient i (parts n (λ j m. h j (still_below n j m))) ≡ sum_below n (λ j. s j *ℚ coefficient_of i (terms j))
+          → total_coefficient i (part l (place n) n (s n) (terms n) a (parts n (λ j m. h j (still_below n j m)))) ≡ sum_below n (λ j. s j *ℚ coefficient_of i (terms j)) +ℚ s n *ℚ coefficient_of i (terms n)
       by_kind (up p b o m q) e =
-          solve_from fraction-ring (v 0 ⊗ v 1 ⊕ v 2) (v 3 ⊕ v 0 ⊗ v 1) (s n ∷ coefficient_of i (terms n) ∷ total_coefficient i (parts n (λ j m. h j (omega arith))) ∷ sum_below n (λ j. s j *ℚ coefficient_of i (terms j)) ∷ [])
+          solve_from fraction-ring (v 0 ⊗ v 1 ⊕ v 2) (v 3 ⊕ v 0 ⊗ v 1) (s n ∷ coefficient_of i (terms n) ∷ total_coefficient i (parts n (λ j m. h j (still_below n j m))) ∷ sum_below n (λ j. s j *ℚ coefficient_of i (terms j)) ∷ [])
           (eq (k (pos 1)) (v 2) (v 3) e done) refl
       by_kind (down p b o m q) e =
-          solve_from fraction-ring (inv (v 0) ⊗ v 4 ⊕ v 2) (v 3 ⊕ v 0 ⊗ v 1) (s n ∷ coefficient_of i (terms n) ∷ total_coefficient i (parts n (λ j m. h j (omega arith))) ∷ sum_below n (λ j. s j *ℚ coefficient_of i (terms j)) ∷ coefficient_of i (negative_of (terms n)) ∷ [])
+          solve_from fraction-ring (inv (v 0) ⊗ v 4 ⊕ v 2) (v 3 ⊕ v 0 ⊗ v 1) (s n ∷ coefficient_of i (terms n) ∷ total_coefficient i (parts n (λ j m. h j (still_below n j m))) ∷ sum_below n (λ j. s j *ℚ coefficient_of i (terms j)) ∷ coefficient_of i (negative_of (terms n)) ∷ [])
           (eq (k (pos 1)) (v 2) (v 3) e (eq (inv (v 0)) (v 4) (k (negsuc 0) ⊗ v 1) (coefficient_of-multiple i (whole (negsuc 0)) (terms n)) done)) refl
       by_kind (free z) e =
-          solve_from fraction-ring (v 2) (v 3 ⊕ v 0 ⊗ v 1) (s n ∷ coefficient_of i (terms n) ∷ total_coefficient i (parts n (λ j m. h j (omega arith))) ∷ sum_below n (λ j. s j *ℚ coefficient_of i (terms j)) ∷ [])
+          solve_from fraction-ring (v 2) (v 3 ⊕ v 0 ⊗ v 1) (s n ∷ coefficient_of i (terms n) ∷ total_coefficient i (parts n (λ j m. h j (still_below n j m))) ∷ sum_below n (λ j. s j *ℚ coefficient_of i (terms j)) ∷ [])
           (eq (k (pos 1)) (v 2) (v 3) e (eq (inv (v 1)) (v 0) (k (pos 0)) z done)) refl
 
   parts-bound : (n : ℕ) (h : (j : ℕ) → j < n → Held l (place j) j (s j)) → total_bound (parts n h) ≡ sum_below n (λ j. s j *ℚ (place j).main)
   parts-bound zero h = refl
-  parts-bound (suc n) h = by_kind (h n (omega arith)) (parts-bound n (λ j m. h j (omega arith)))
+  parts-bound (suc n) h = by_kind (h n (own_below n)) (parts-bound n (λ j m. h j (still_below n j m)))
     where
-      by_kind : (a : Held l (place n) n (s n)) → total_bound (parts n (λ j m. h j (omega arith))) ≡ sum_below n (λ j. s j *ℚ (place j).main)
-          → total_bound (part l (place n) n (s n) (terms n) a (parts n (λ j m. h j (omega arith)))) ≡ sum_below n (λ j. s j *ℚ (place j).main) +ℚ s n *ℚ (place n).main
+      by_kind : (a : Held l (place n) n (s n)) → total_bound (parts n (λ j m. h j (still_below n j m))) ≡ sum_below n (λ j. s j *ℚ (place j).main)
+          → total_bound (part l (place n) n (s n) (terms n) a (parts n (λ j m. h j (still_below n j m)))) ≡ sum_below n (λ j. s j *ℚ (place j).main) +ℚ s n *ℚ (place n).main
       by_kind (up p b o m q) e =
-          solve_from fraction-ring (v 0 ⊗ v 1 ⊕ v 2) (v 3 ⊕ v 0 ⊗ v 4) (s n ∷ b.value ∷ total_bound (parts n (λ j m. h j (omega arith))) ∷ sum_below n (λ j. s j *ℚ (place j).main) ∷ (place n).main ∷ [])
+          solve_from fraction-ring (v 0 ⊗ v 1 ⊕ v 2) (v 3 ⊕ v 0 ⊗ v 4) (s n ∷ b.value ∷ total_bound (parts n (λ j m. h j (still_below n j m))) ∷ sum_below n (λ j. s j *ℚ (place j).main) ∷ (place n).main ∷ [])
           (eq (k (pos 1)) (v 2) (v 3) e (eq (inv (v 0)) (v 4) (v 1) m done)) refl
       by_kind (down p b o m q) e =
-          solve_from fraction-ring (inv (v 0) ⊗ inv (v 1) ⊕ v 2) (v 3 ⊕ v 0 ⊗ v 4) (s n ∷ b.value ∷ total_bound (parts n (λ j m. h j (omega arith))) ∷ sum_below n (λ j. s j *ℚ (place j).main) ∷ (place n).main ∷ [])
+          solve_from fraction-ring (inv (v 0) ⊗ inv (v 1) ⊕ v 2) (v 3 ⊕ v 0 ⊗ v 4) (s n ∷ b.value ∷ total_bound (parts n (λ j m. h j (still_below n j m))) ∷ sum_below n (λ j. s j *ℚ (place j).main) ∷ (place n).main ∷ [])
           (eq (k (pos 1)) (v 2) (v 3) e (eq (inv (v 0)) (v 4) (v 1) m done)) refl
       by_kind (free z) e =
-          solve_from fraction-ring (v 2) (v 3 ⊕ v 0 ⊗ v 4) (s n ∷ zero_q ∷ total_bound (parts n (λ j m. h j (omega arith))) ∷ sum_below n (λ j. s j *ℚ (place j).main) ∷ (place n).main ∷ [])
+          solve_from fraction-ring (v 2) (v 3 ⊕ v 0 ⊗ v 4) (s n ∷ zero_q ∷ total_bound (parts n (λ j m. h j (still_below n j m))) ∷ sum_below n (λ j. s j *ℚ (place j).main) ∷ (place n).main ∷ [])
           (eq (k (pos 1)) (v 2) (v 3) e (eq (inv (v 4)) (v 0) (k (pos 0)) z done)) refl
 
   -- ---- where the small parts sum to less than 0, a strict bound has a part
@@ -110,10 +116,10 @@ module _ (l : Limits) (terms : ℕ → Terms) (place : ℕ → Pair) (s : ℕ �
 
   parts-strict : (n : ℕ) (h : (j : ℕ) → j < n → Held l (place j) j (s j)) → sum_below n (λ j. s j *ℚ (place j).small) <ℚ whole (pos 0) → Any Strict (parts n h)
   parts-strict zero h m = absurd (<ℚ_irrefl (whole (pos 0)) m)
-  parts-strict (suc n) h m = by_kind (h n (omega arith)) (parts-strict n (λ j m. h j (omega arith))) (at_most_or_above (whole (pos 0)) (sum_below n (λ j. s j *ℚ (place j).small)))
+  parts-strict (suc n) h m = by_kind (h n (own_below n)) (parts-strict n (λ j m. h j (still_below n j m))) (at_most_or_above (whole (pos 0)) (sum_below n (λ j. s j *ℚ (place j).small)))
     where
       rows : List Row
-      rows = parts n (λ j m. h j (omega arith))
+      rows = parts n (λ j m. h j (still_below n j m))
 
       -- where the sum before isn't below 0, this part is
       own : whole (pos 0) ≤ℚ sum_below n (λ j. s j *ℚ (place j).small) → (s n *ℚ (place n).small) <ℚ whole (pos 0)
@@ -255,20 +261,18 @@ module _ (l : Limits) (terms : ℕ → Terms) (t : Table) (tidy : IsTidy t) (pla
   minus_above : (c : Fraction) → IsPositive (neg_ℚ (whole (negsuc 0) *ℚ c)) → whole (pos 0) <ℚ c
   minus_above c p = strict_from fraction-order (k (pos 0)) (v 0) (c ∷ []) (lt (k (pos 1)) (k (pos 0)) (inv (k (negsuc 0) ⊗ v 0)) tt ((positive-iff (neg_ℚ (whole (negsuc 0) *ℚ c))).0 p) done) tt refl
 
-  under : (x : Extends terms t) → IsStuck l t place r Under → (o : Option Bound) → lower_of l r ≡ o → BelowLower o (row_pair t place r) → (rows : List Row) × IsClash l terms rows
-  under x st None e h = absurd h
-  under x st (Some b) e h =
+  -- the reading of the violated bound, and of those that hold the other variables of its row
+  pub under_rows : (x : Extends terms t) → IsStuck l t place r Under → (b : Bound) → lower_of l r ≡ Some b → BelowLower (Some b) (row_pair t place r)
+      → (held : (j : ℕ) → j < width t → Held l (place j) j (whole (pos 1) *ℚ cell t r j)) × IsRefutation (lower_row b (terms r) (whole (pos 1)) ∷ parts l terms place (λ j. whole (pos 1) *ℚ cell t r j) (width t) held)
+  under_rows x st b e h =
       let σ = whole (pos 1) in
       let held : (j : ℕ) → j < width t → Held l (place j) j (σ *ℚ cell t r j) = λ j lj. held_by st.within σ (inl refl) j lj
       (λ o p n. st.helpless j lj o (inl (plus_above (cell t r j) p, n))) (λ o p n. st.helpless j lj o (inr (plus_below (cell t r j) p, n))) in
       let own : Row = lower_row b (terms r) (whole (pos 1)) in (
-        own ∷ parts l terms place (λ j. σ *ℚ cell t r j) (width t) held,
-        record {
-          readings = ((r, b, inr (e, refl)), parts-readings l terms place (λ j. σ *ℚ cell t r j) (width t) held);
-          refutes = refutes l terms t place r σ held x st.within st.basic own b.value refl
+        held,
+      refutes l terms t place r σ held x st.within st.basic own b.value refl
               (λ i. coefficient_of-multiple i (whole (negsuc 0)) (terms r) ∙ solve fraction-ring (k (negsuc 0) ⊗ v 0) (inv (k (pos 1)) ⊗ v 0) (coefficient_of i (terms r) ∷ []) refl)
-              (solve fraction-ring (inv (v 0)) (inv (k (pos 1)) ⊗ v 0) (b.value ∷ []) refl) (by_parts h);
-        },
+              (solve fraction-ring (inv (v 0)) (inv (k (pos 1)) ⊗ v 0) (b.value ∷ []) refl) (by_parts h),
       )
     where
       row : Pair
@@ -284,20 +288,26 @@ module _ (l : Limits) (terms : ℕ → Terms) (t : Table) (tidy : IsTidy t) (pla
       by_parts (inl g) = inl (strict_from fraction-order (k (pos 1) ⊗ v 0) (k (pos 1) ⊗ v 1) (row.main ∷ b.value ∷ []) (lt (k (pos 1)) (v 0) (v 1) tt g done) tt refl)
       by_parts (inr g) = inr (g.0, by_strict b.strict refl g.1)
 
-  over : (x : Extends terms t) → IsStuck l t place r Over → (o : Option Bound) → upper_of l r ≡ o → AboveUpper o (row_pair t place r) → (rows : List Row) × IsClash l terms rows
-  over x st None e h = absurd h
-  over x st (Some b) e h =
+  under : (x : Extends terms t) → IsStuck l t place r Under → (o : Option Bound) → lower_of l r ≡ o → BelowLower o (row_pair t place r) → (rows : List Row) × IsClash l terms rows
+  under x st None e h = absurd h
+  under x st (Some b) e h =
+      let c = under_rows x st b e h in (
+        lower_row b (terms r) (whole (pos 1)) ∷ parts l terms place (λ j. whole (pos 1) *ℚ cell t r j) (width t) c.0,
+        record { readings = ((r, b, inr (e, refl)), parts-readings l terms place (λ j. whole (pos 1) *ℚ cell t r j) (width t) c.0); refutes = c.1 },
+      )
+
+  -- the reading of the violated bound, and of those that hold the other variables of its row
+  pub over_rows : (x : Extends terms t) → IsStuck l t place r Over → (b : Bound) → upper_of l r ≡ Some b → AboveUpper (Some b) (row_pair t place r)
+      → (held : (j : ℕ) → j < width t → Held l (place j) j (whole (negsuc 0) *ℚ cell t r j)) × IsRefutation (upper_row b (terms r) (whole (pos 1)) ∷ parts l terms place (λ j. whole (negsuc 0) *ℚ cell t r j) (width t) held)
+  over_rows x st b e h =
       let σ = whole (negsuc 0) in
       let held : (j : ℕ) → j < width t → Held l (place j) j (σ *ℚ cell t r j) = λ j lj. held_by st.within σ (inr refl) j lj
       (λ o p n. st.helpless j lj o (inl (minus_below (cell t r j) p, n))) (λ o p n. st.helpless j lj o (inr (minus_above (cell t r j) p, n))) in
       let own : Row = upper_row b (terms r) (whole (pos 1)) in (
-        own ∷ parts l terms place (λ j. σ *ℚ cell t r j) (width t) held,
-        record {
-          readings = ((r, b, inl (e, refl)), parts-readings l terms place (λ j. σ *ℚ cell t r j) (width t) held);
-          refutes = refutes l terms t place r σ held x st.within st.basic own b.value refl
+        held,
+      refutes l terms t place r σ held x st.within st.basic own b.value refl
               (λ i. solve fraction-ring (v 0) (inv (k (negsuc 0)) ⊗ v 0) (coefficient_of i (terms r) ∷ []) refl)
-              (solve fraction-ring (v 0) (inv (k (negsuc 0)) ⊗ v 0) (b.value ∷ []) refl) (by_parts h);
-        },
+              (solve fraction-ring (v 0) (inv (k (negsuc 0)) ⊗ v 0) (b.value ∷ []) refl) (by_parts h),
       )
     where
       row : Pair
@@ -312,6 +322,14 @@ module _ (l : Limits) (terms : ℕ → Terms) (t : Table) (tidy : IsTidy t) (pla
       by_parts : upper_pair b <ₚ row → ((whole (negsuc 0) *ℚ row.main) <ℚ (whole (negsuc 0) *ℚ b.value)) ⊎ ((row.main ≡ b.value) × (IsTrue b.strict ⊎ ((whole (negsuc 0) *ℚ row.small) <ℚ whole (pos 0))))
       by_parts (inl g) = inl (strict_from fraction-order (k (negsuc 0) ⊗ v 0) (k (negsuc 0) ⊗ v 1) (row.main ∷ b.value ∷ []) (lt (k (pos 1)) (v 1) (v 0) tt g done) tt refl)
       by_parts (inr g) = inr (sym g.0, by_strict b.strict refl g.1)
+
+  over : (x : Extends terms t) → IsStuck l t place r Over → (o : Option Bound) → upper_of l r ≡ o → AboveUpper o (row_pair t place r) → (rows : List Row) × IsClash l terms rows
+  over x st None e h = absurd h
+  over x st (Some b) e h =
+      let c = over_rows x st b e h in (
+        upper_row b (terms r) (whole (pos 1)) ∷ parts l terms place (λ j. whole (negsuc 0) *ℚ cell t r j) (width t) c.0,
+        record { readings = ((r, b, inl (e, refl)), parts-readings l terms place (λ j. whole (negsuc 0) *ℚ cell t r j) (width t) c.0); refutes = c.1 },
+      )
 
 -- a stuck configuration has a clash
 pub clash : (l : Limits) (terms : ℕ → Terms) (t : Table) → IsTidy t → (place : ℕ → Pair) → IsPlaced l t place → Extends terms t → (r : ℕ) (side : Side) → IsStuck l t place r side → (rows : List Row) × IsClash l terms rows

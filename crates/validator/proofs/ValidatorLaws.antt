@@ -6,9 +6,9 @@ use Rattle.pddl_form.proofs.Judging.{noted-good}
 use Rattle.pddl_task.specs.declared.parts.TaskParts.{TaskParts}
 use Rattle.plan_step.specs.declared.failure.StepFail.{StepFail}
 use Rattle.plan_step.specs.declared.failure.StepFail.TheVariants as fail
-use Rattle.plan_text.specs.declared.plan.Part.{Part}
+use Rattle.plan_form.specs.declared.plan.Part.{Part}
 use Rattle.plan_text.specs.PlanText.{names_of, plan_judged, IsFirstFault}
-use Rattle.plan_text.specs.Printed.{flat_length}
+use Rattle.plan_form.specs.Printed.{flat_length}
 use Rattle.plan_judge.specs.declared.outcome.Outcome.{Outcome}
 use Rattle.plan_judge.specs.declared.outcome.Outcome.TheVariants as outcome
 use Rattle.plan_judge.specs.Outcome.{outcome_of}

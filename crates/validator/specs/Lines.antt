@@ -1,10 +1,7 @@
 -- The line of an answer, and its status.
 use Rattle.std.specs.Prelude.{ℕ, List, [], ◌∷◌, ◌++◌, codes}
 use Rattle.std.specs.Fmt.{decimal}
-use Rattle.frac128.specs.Text.{text_of}
-use Rattle.frac128.specs.declared.operations.Op.{Op}
-use Rattle.frac128.specs.declared.operations.Op.TheVariants as op
-use Rattle.frac128.specs.declared.operations.Wide.{Wide}
+use Rattle.operation_text.specs.Operation.{operation_text}
 use Rattle.plan_step.specs.declared.failure.StepFail.{StepFail}
 use Rattle.plan_step.specs.declared.failure.StepFail.TheVariants as fail
 use Rattle.plan_judge.specs.declared.outcome.PartFail.{PartFail}
@@ -13,16 +10,6 @@ use Rattle.plan_judge.specs.declared.outcome.Outcome.TheVariants as outcome
 use Rattle.patty_run.specs.Printed.{line}
 use Rattle.validator.specs.declared.answer.Answer.{Answer}
 use Rattle.validator.specs.declared.answer.Answer.TheVariants as answer
-
-abbrev pub operator_word : Op → List ℕ
-operator_word op.Add = codes "add "
-operator_word op.Sub = codes "sub "
-operator_word op.Mul = codes "mul "
-operator_word op.Div = codes "div "
-
--- an operation with its operands
-abbrev pub operation : Wide → List ℕ
-operation w = operator_word w.op ++ (text_of w.x ++ (codes " " ++ text_of w.y))
 
 -- the first word says that a plan isn't valid, or that an operation passes 128 bits; a judgement never ends in want of
 -- memory, so what stands there for it is no line of a run
@@ -41,7 +28,7 @@ reason fail.ArgType = codes "type"
 reason (fail.Condition i) = codes "condition " ++ decimal i
 reason (fail.NoValue i) = codes "value " ++ decimal i
 reason (fail.Clash i) = codes "clash " ++ decimal i
-reason (fail.Wide w) = operation w
+reason (fail.Wide w) = operation_text w
 reason fail.Memory = []
 
 -- the part and the repetition stand between the two
@@ -52,7 +39,7 @@ abbrev pub outcome_text : Outcome → ℕ → List ℕ
 outcome_text outcome.Valid steps = codes "valid " ++ decimal steps
 outcome_text (outcome.PartFails e) steps = failure e
 outcome_text outcome.GoalFails steps = codes "invalid goal"
-outcome_text (outcome.GoalWide w) steps = codes "wide goal " ++ operation w
+outcome_text (outcome.GoalWide w) steps = codes "wide goal " ++ operation_text w
 
 abbrev pub text : Answer → List ℕ
 text (answer.PlanFault kind place) = codes "fault plan " ++ (decimal kind ++ (codes " " ++ decimal place))

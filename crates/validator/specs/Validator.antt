@@ -2,9 +2,9 @@
 use Rattle.std.specs.Prelude.{◌≡◌, ◌⊎◌, ℕ, ◌<◌, List, [], ◌∷◌, codes, Ok}
 use Rattle.pddl_form.specs.Judged.{good}
 use Rattle.pddl_task.specs.declared.parts.TaskParts.{TaskParts}
-use Rattle.plan_text.specs.declared.plan.Part.{Part}
+use Rattle.plan_form.specs.declared.plan.Part.{Part}
 use Rattle.plan_text.specs.PlanText.{names_of, plan_judged, IsFirstFault}
-use Rattle.plan_text.specs.Printed.{flat_length}
+use Rattle.plan_form.specs.Printed.{flat_length}
 use Rattle.plan_judge.specs.declared.outcome.Outcome.{Outcome}
 use Rattle.plan_judge.specs.declared.outcome.Outcome.TheVariants as outcome
 use Rattle.plan_judge.specs.Outcome.{outcome_of}

@@ -5,30 +5,10 @@ ghost use Rattle.patty_run.specs.Printed.{joined};
 ghost use Rattle.validator.specs.Lines as lines;
 
 use crate::answer::Answer;
-use frac128::{Op, Wide};
+use operation_text::write_operation;
 use plan_judge::{Outcome, PartFail};
 use plan_step::StepFail;
 use std::alloc::{AllocError, Global};
-
-fn operator_word(op: Op) -> &'static [u8]
-    ensures { result.now ≡ lines.operator_word op }
-{
-    match op {
-        Op::Add => b"add ",
-        Op::Sub => b"sub ",
-        Op::Mul => b"mul ",
-        Op::Div => b"div ",
-    }
-}
-
-fn add_operation(into: &mut Vec<u8>, wide: &Wide) -> Result<(), AllocError>
-    ensures { OnOk result (into.new.items ≡ into.old.items ++ lines.operation wide.now) }
-{
-    into.extend_from_slice(operator_word(wide.op))?;
-    wide.x.to_text(into)?;
-    into.extend_from_slice(b" ")?;
-    wide.y.to_text(into)
-}
 
 fn first_word(fail: &StepFail) -> &'static [u8]
     ensures { result.now ≡ lines.first_word fail.now }
@@ -61,7 +41,7 @@ fn add_reason(alloc: Global, into: &mut Vec<u8>, fail: &StepFail) -> Result<(), 
         StepFail::Condition(leaf) => add_leaf(alloc, into, "condition ", *leaf),
         StepFail::NoValue(leaf) => add_leaf(alloc, into, "value ", *leaf),
         StepFail::Clash(leaf) => add_leaf(alloc, into, "clash ", *leaf),
-        StepFail::Wide(wide) => add_operation(into, wide),
+        StepFail::Wide(wide) => write_operation(wide, into),
         StepFail::Memory => Ok(()),
     }
 }
@@ -94,7 +74,7 @@ fn add_outcome(
         Outcome::GoalFails => into.extend_from_slice(b"invalid goal"),
         Outcome::GoalWide(wide) => {
             into.extend_from_slice(b"wide goal ")?;
-            add_operation(into, wide)
+            write_operation(wide, into)
         }
     }
 }

@@ -2,7 +2,7 @@
 use Rattle.std.specs.Prelude.{◌≡◌, ◌++◌, List}
 use Rattle.pddl_form.specs.Judged.{Judged, syntax_of, noted}
 use Rattle.pddl_form.specs.Gather.{option_both}
-use Rattle.plan_text.specs.declared.plan.Part.{Part}
+use Rattle.plan_form.specs.declared.plan.Part.{Part}
 use Rattle.plan_text.specs.declared.line.Reading.{Reading}
 
 -- the parts of the line are after the others, and its faults are noted

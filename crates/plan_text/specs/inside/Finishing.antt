@@ -1,10 +1,10 @@
 -- What is answered at the end of a text.
 use Rattle.std.specs.Prelude.{◌≡◌, List, Option, Some, None, Result, Ok, Err}
 use Rattle.pddl_form.specs.declared.fault.Fault.{Fault}
-use Rattle.plan_text.specs.declared.plan.Part.{Part}
+use Rattle.plan_form.specs.declared.plan.Part.{Part}
 use Rattle.plan_text.specs.declared.refusal.PlanRefusal.{PlanRefusal}
 use Rattle.plan_text.specs.declared.refusal.PlanRefusal.TheVariants as refusal
-use Rattle.plan_text.specs.Printed.{AreCounted}
+use Rattle.plan_form.specs.Printed.{AreCounted}
 
 -- there is a fault, or a plan
 abbrev pub IsOutcome : Option (List Part) → Option Fault → Type 0

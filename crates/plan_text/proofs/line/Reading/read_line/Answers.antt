@@ -1,6 +1,6 @@
 use Rattle.std.proofs.Common.{List, subst, sym}
 use Rattle.pddl_form.specs.Judged.{Judged}
-use Rattle.plan_text.specs.declared.plan.Part.{Part}
+use Rattle.plan_form.specs.declared.plan.Part.{Part}
 use Rattle.plan_text.specs.inside.Extending.{Extends}
 use Rattle.plan_text.specs.inside.Tables.{names_in}
 use Rattle.plan_text.proofs.LineLaws.{has_code, line_foreign, line_fine}

@@ -1,0 +1,4 @@
+pub mod BoundLaws
+pub mod PointLaws
+pub mod CopyLaws
+pub mod Clashes

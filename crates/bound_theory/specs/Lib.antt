@@ -1,0 +1,6 @@
+pub mod Bounds
+pub mod LemmaLaws
+pub mod Points
+pub mod Copies
+pub mod Stuck
+pub mod Judging

@@ -1,0 +1,10 @@
+mod Tables
+mod Literals
+mod Scans
+mod Telling
+mod Hints
+mod Denying
+mod Parts
+mod Nexts
+mod Readies
+mod Accepting

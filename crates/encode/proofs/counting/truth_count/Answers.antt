@@ -1,0 +1,12 @@
+use Rattle.std.proofs.Common.{◌∙◌, ◌≡◌, Bool, false, cond, ap, sym}
+use Rattle.std.specs.Prelude.{None, slice_get}
+use lib.IntN.{pos}
+use Rattle.rational.specs.Fraction.{whole}
+use Rattle.rational.proofs.FieldLaws.{quotient-itself}
+use Rattle.encode.proofs.CountingLaws.{none-at}
+use Rattle.encode.proofs.counting.truth_count.Goals as goal
+
+pub returns-in-None : goal.returns-in-None
+returns-in-None c =
+    let e : slice_get c.args.p.now.truth c.args.b ≡ None = sym c.get.ensures.value ∙ sym c.copied.ensures ∙ c.in-None.is in
+    c.ratio.ensures ∙ quotient-itself (whole (pos 0)) ∙ sym (ap (λ (b : Bool). cond b (whole (pos 1)) (whole (pos 0))) (none-at c.args.p.now.truth c.args.b false e))

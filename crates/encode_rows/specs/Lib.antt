@@ -1,0 +1,12 @@
+pub mod Bounds
+pub mod Clauses
+pub mod Literals
+pub mod Standing
+pub mod Symbols
+pub mod Changing
+pub mod Beginning
+pub mod Lasting
+pub mod Names
+pub mod Changed
+pub mod Setting
+pub mod Growing

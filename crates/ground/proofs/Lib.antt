@@ -1,0 +1,10 @@
+pub mod Lists
+pub mod Behind
+pub mod Course
+pub mod Drafting
+pub mod Marking
+pub mod Parts
+pub mod AllActions
+pub mod GoalLaws
+pub mod Together
+pub mod Whole

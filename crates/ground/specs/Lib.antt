@@ -1,0 +1,4 @@
+pub mod Parts
+pub mod Course
+pub mod Grounds
+pub mod inside

@@ -1,0 +1,4 @@
+-- What the clauses of private functions say. No public clause cites these files.
+pub mod Concluding
+pub mod Goal
+pub mod Working

@@ -1,0 +1,3 @@
+pub mod SameTerms
+pub mod RowPlaces
+pub mod Tight

@@ -1,0 +1,4 @@
+pub mod LeftSides
+pub mod Sides
+pub mod Tightest
+pub mod inside

@@ -1,0 +1,4 @@
+pub mod VariableTerms
+pub mod Setting
+pub mod Parts
+pub mod Clash
