@@ -6,8 +6,8 @@ ghost use Rattle.plan_judge.specs.Laws.{Means};
 
 use crate::outcome::{Outcome, PartFail};
 use pddl_task::Task;
-use plan_step::{State, StepFail, goal, repeat};
 use plan_form::Plan;
+use plan_step::{State, StepFail, goal, repeat};
 use std::alloc::{AllocError, Global};
 
 /// Makes the parts from the initial state, up to the first that fails, and tests the goal.

@@ -270,9 +270,9 @@ module _ (l : Limits) (terms : ℕ → Terms) (t : Table) (tidy : IsTidy t) (pla
       (λ o p n. st.helpless j lj o (inl (plus_above (cell t r j) p, n))) (λ o p n. st.helpless j lj o (inr (plus_below (cell t r j) p, n))) in
       let own : Row = lower_row b (terms r) (whole (pos 1)) in (
         held,
-      refutes l terms t place r σ held x st.within st.basic own b.value refl
-              (λ i. coefficient_of-multiple i (whole (negsuc 0)) (terms r) ∙ solve fraction-ring (k (negsuc 0) ⊗ v 0) (inv (k (pos 1)) ⊗ v 0) (coefficient_of i (terms r) ∷ []) refl)
-              (solve fraction-ring (inv (v 0)) (inv (k (pos 1)) ⊗ v 0) (b.value ∷ []) refl) (by_parts h),
+        refutes l terms t place r σ held x st.within st.basic own b.value refl
+            (λ i. coefficient_of-multiple i (whole (negsuc 0)) (terms r) ∙ solve fraction-ring (k (negsuc 0) ⊗ v 0) (inv (k (pos 1)) ⊗ v 0) (coefficient_of i (terms r) ∷ []) refl)
+            (solve fraction-ring (inv (v 0)) (inv (k (pos 1)) ⊗ v 0) (b.value ∷ []) refl) (by_parts h),
       )
     where
       row : Pair
@@ -305,9 +305,9 @@ module _ (l : Limits) (terms : ℕ → Terms) (t : Table) (tidy : IsTidy t) (pla
       (λ o p n. st.helpless j lj o (inl (minus_below (cell t r j) p, n))) (λ o p n. st.helpless j lj o (inr (minus_above (cell t r j) p, n))) in
       let own : Row = upper_row b (terms r) (whole (pos 1)) in (
         held,
-      refutes l terms t place r σ held x st.within st.basic own b.value refl
-              (λ i. solve fraction-ring (v 0) (inv (k (negsuc 0)) ⊗ v 0) (coefficient_of i (terms r) ∷ []) refl)
-              (solve fraction-ring (v 0) (inv (k (negsuc 0)) ⊗ v 0) (b.value ∷ []) refl) (by_parts h),
+        refutes l terms t place r σ held x st.within st.basic own b.value refl
+            (λ i. solve fraction-ring (v 0) (inv (k (negsuc 0)) ⊗ v 0) (coefficient_of i (terms r) ∷ []) refl)
+            (solve fraction-ring (v 0) (inv (k (negsuc 0)) ⊗ v 0) (b.value ∷ []) refl) (by_parts h),
       )
     where
       row : Pair

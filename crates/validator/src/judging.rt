@@ -7,8 +7,8 @@ use crate::answer::Answer;
 use patty_io::LIMIT;
 use patty_run::{Stop, read_task};
 use pddl_task::Task;
-use plan_judge::judge_plan;
 use plan_form::flat_len;
+use plan_judge::judge_plan;
 use plan_text::{PlanRefusal, read_plan};
 use std::alloc::{AllocError, Global};
 
