@@ -11,9 +11,9 @@ use Rattle.plan_step.specs.Conditions.{leaves_met, first_unmet}
 use Rattle.plan_step.specs.Effects.{change_met, all_changes, first_clash}
 use Rattle.plan_step.specs.Meaning.{Change}
 use Rattle.plan_step.specs.Step.{then_next, state_after, made_by}
-use Rattle.plan_step.specs.inside.Touches.{Answers, changes_of}
+use Rattle.plan_step.specs.Touches.{changes_of}
+use Rattle.plan_step.specs.inside.Touching.{Answers, changes_in}
 use Rattle.plan_step.specs.Making.{MakesFail}
-use Rattle.plan_step.specs.inside.Undoing.{changes_in}
 
 -- a failure is passed on, where the whole means it too
 pub failed_as : {A B C D : Type 0} (f : A → B) (g : C → D) (part : Result B StepFail) (whole : Result D StepFail) (e : StepFail)

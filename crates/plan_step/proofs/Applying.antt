@@ -10,7 +10,7 @@ use Rattle.plan_step.specs.Met.{found, passes}
 use Rattle.plan_step.specs.Effects.{values_after}
 use Rattle.plan_step.specs.Meaning.{Change, puts, truth_after}
 use Rattle.plan_step.specs.Step.{with_values, state_after}
-use Rattle.plan_step.specs.inside.Touches.{target_of, change_in, changes_of, DiffersIn, is_atom}
+use Rattle.plan_step.specs.Touches.{target_of, change_in, changes_of, DiffersIn, is_atom}
 use Rattle.plan_step.specs.inside.Application.{with_truths}
 use Rattle.plan_step.proofs.Booleans.{neither_true}
 use Rattle.plan_step.proofs.Truths.{one_state, state_with}

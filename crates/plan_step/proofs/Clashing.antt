@@ -5,7 +5,7 @@ use Rattle.std.proofs.lemmas.List.Folds.{list_any_at}
 use Rattle.std.specs.List.{list_any}
 use Rattle.plan_step.specs.declared.touches.Touch.{Touch}
 use Rattle.plan_step.specs.Meaning.{Change}
-use Rattle.plan_step.specs.inside.Touches.{change_in, changes_of}
+use Rattle.plan_step.specs.Touches.{change_in, changes_of}
 
 -- one that passes a test is among all
 pub among : (test : Change → Bool) (touches : List Touch) (i : ℕ) (t : Touch) → i < length touches → t ≡ get_or touches i t → test (change_in t) ≡ true → list_any test (changes_of touches) ≡ true

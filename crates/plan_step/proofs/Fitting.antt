@@ -7,8 +7,8 @@ use Rattle.plan_step.specs.declared.failure.StepFail.{StepFail}
 use Rattle.plan_step.specs.declared.failure.StepFail.TheVariants as fail
 use Rattle.plan_step.specs.State.{PlanState}
 use Rattle.plan_step.specs.Step.{then_next, action_for, typed_arguments, made_by, step_from}
-use Rattle.plan_step.specs.inside.Touches.{Target, target_in, DiffersIn}
-use Rattle.plan_step.specs.inside.Fitting.{fitting, touched_by, targets_of}
+use Rattle.plan_step.specs.Touches.{Target, target_in, DiffersIn}
+use Rattle.plan_step.specs.Fitting.{fitting, touched_by, targets_of}
 use Rattle.plan_step.specs.Making.{MakesFail}
 use Rattle.plan_step.proofs.Restoring.{differs_refl}
 

@@ -10,7 +10,8 @@ use Rattle.plan_step.specs.State.{PlanState}
 use Rattle.plan_step.specs.Met.{Met, found, lacks, passes}
 use Rattle.plan_step.specs.Effects.{change_met, all_changes, more_changes}
 use Rattle.plan_step.specs.Meaning.{Change}
-use Rattle.plan_step.specs.inside.Touches.{leaf_answer, change_in, changes_of, target_of, target_in, EachTouch, IsKept, IsUsable, HasTarget, IsTouch, AreTouches}
+use Rattle.plan_step.specs.Touches.{change_in, changes_of, target_of, target_in, EachTouch, IsKept, HasTarget}
+use Rattle.plan_step.specs.inside.Touching.{leaf_answer, IsUsable, IsTouch, AreTouches}
 
 -- changes in front of what comes of the rest
 abbrev pub with_front : List Change → Result (List Change) StepFail → Result (List Change) StepFail

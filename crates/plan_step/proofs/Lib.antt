@@ -25,10 +25,4 @@ pub mod WideLaws
 pub mod Reasons
 pub mod ReasonLaws
 pub mod Breaking
-pub mod Even
-pub mod Between
 pub mod Changing
-pub mod RollingOn
-pub mod Bases
-pub mod Jumps
-pub mod RolledSteps

@@ -4,9 +4,10 @@ use Rattle.pddl_task.specs.declared.effect.Effect.{Effect}
 use Rattle.plan_step.specs.declared.touches.Touch.{Touch}
 use Rattle.plan_step.specs.State.{PlanState}
 use Rattle.plan_step.specs.Held.{Held, state_of}
-use Rattle.plan_step.specs.inside.Places.{KeepsPlaces}
-use Rattle.plan_step.specs.inside.Touches.{Target, target_of, target_in, EachTouch, IsKept, HasPlace, AreTouches, DiffersIn}
-use Rattle.plan_step.specs.inside.Undoing.{WasBefore}
+use Rattle.plan_step.specs.Places.{KeepsPlaces}
+use Rattle.plan_step.specs.Touches.{Target, target_of, target_in, EachTouch, IsKept, HasPlace, DiffersIn}
+use Rattle.plan_step.specs.inside.Touching.{AreTouches}
+use Rattle.plan_step.specs.Undoing.{WasBefore}
 use Rattle.plan_step.proofs.Placing.{place_among}
 use Rattle.plan_step.proofs.Restoring.{differs_on}
 

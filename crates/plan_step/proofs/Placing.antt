@@ -4,8 +4,8 @@ use Rattle.std.proofs.lemmas.List.{map_more}
 use Rattle.plan_step.specs.declared.touches.Touch.{Touch}
 use Rattle.plan_step.specs.declared.touches.Touch.TheVariants as touch
 use Rattle.plan_step.specs.Held.{Held}
-use Rattle.plan_step.specs.inside.Places.{KeepsPlaces}
-use Rattle.plan_step.specs.inside.Touches.{EachTouch, HasPlace, change_in, changes_of}
+use Rattle.plan_step.specs.Places.{KeepsPlaces}
+use Rattle.plan_step.specs.Touches.{EachTouch, HasPlace, change_in, changes_of}
 
 -- a fact of each of the first touches
 abbrev pub EachBelow : (Touch → Type 0) → List Touch → ℕ → Type 0

@@ -8,7 +8,7 @@ use Rattle.std.specs.Cmp.Lexicographic.{bytes_decides}
 use Rattle.plan_step.specs.declared.touches.Touch.{Touch}
 use Rattle.plan_step.specs.declared.touches.Touch.TheVariants as touch
 use Rattle.plan_step.specs.State.{PlanState}
-use Rattle.plan_step.specs.inside.Touches.{Target, target_of, IsKept, DiffersIn, is_atom, is_function}
+use Rattle.plan_step.specs.Touches.{Target, target_of, IsKept, DiffersIn, is_atom, is_function}
 use Rattle.plan_step.specs.inside.Application.{put_back}
 use Rattle.plan_step.proofs.Booleans.{flipped, both_true}
 use Rattle.plan_step.proofs.Truths.{one_state}

@@ -28,10 +28,10 @@ one_step task old s t by h k =
     (λ f args. h.value f args ∙ ap (λ (cs : List Change). value_after cs f args (old.value f args)) changes ∙ sym (k.value f args))
 
 -- a run begins with a step, or has none
-split : (task : TaskParts) (s t : PlanState) (by : Instance) (more : List Instance) → Run task s (by ∷ more) t → (next : PlanState) × HasStep task s by next × Run task next more t
+pub split : (task : TaskParts) (s t : PlanState) (by : Instance) (more : List Instance) → Run task s (by ∷ more) t → (next : PlanState) × HasStep task s by next × Run task next more t
 split task s t by more (stepped {t = next} h r) = (next, h, r)
 
-stays : (task : TaskParts) (s t : PlanState) → Run task s [] t → s ≡ t
+pub stays : (task : TaskParts) (s t : PlanState) → Run task s [] t → s ≡ t
 stays task s t (ended same) = one_state s t same.truth same.value
 
 -- a run ends in one state

@@ -10,7 +10,7 @@ use Rattle.pddl_task.specs.declared.start.Fact.{Fact}
 use Rattle.pddl_task.specs.declared.start.Given.{Given}
 use Rattle.pddl_task.specs.declared.parts.TaskParts.{TaskParts}
 use Rattle.plan_step.specs.State.{PlanState, gives_truth, gives_value, initial}
-use Rattle.plan_step.specs.inside.Places.{with_atom, with_function}
+use Rattle.plan_step.specs.Places.{with_atom, with_function}
 use Rattle.plan_step.specs.inside.Start.{with_facts, or_else, with_given, with_given_values}
 use Rattle.plan_step.proofs.Booleans.{flipped}
 use Rattle.plan_step.proofs.Restoring.{chosen, one_call}

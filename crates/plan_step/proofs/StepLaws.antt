@@ -10,18 +10,25 @@ use Rattle.frac128.specs.declared.operations.Wide.{Wide}
 use Rattle.pddl_task.specs.declared.action.Action.{Action}
 use Rattle.pddl_task.specs.declared.instance.Instance.{Instance}
 use Rattle.pddl_task.specs.declared.parts.TaskParts.{TaskParts}
+use Rattle.pddl_task.specs.declared.condition.Cond.{Cond}
+use Rattle.pddl_task.specs.declared.effect.Effect.{Effect}
 use Rattle.pddl_task.specs.declared.effect.NumOp.{NumOp}
 use Rattle.pddl_task.specs.declared.effect.NumOp.TheVariants.{Assign, Increase, Decrease, ScaleUp, ScaleDown}
 use Rattle.frac128.specs.declared.operations.Op.{Op}
 use Rattle.frac128.specs.declared.operations.Op.TheVariants as op
 use Rattle.plan_step.specs.declared.failure.StepFail.{StepFail}
 use Rattle.plan_step.specs.declared.failure.StepFail.TheVariants as fail
+use Rattle.plan_step.specs.declared.touches.Touch.{Touch}
 use Rattle.plan_step.specs.State.{PlanState}
 use Rattle.plan_step.specs.Met.{Met, found, lacks, passes, and_then, passes_128, wide, operated}
 use Rattle.plan_step.specs.Effects.{target_met, first_clash, changed, with_value, values_after, all_changes, change_met}
 use Rattle.plan_step.specs.Conditions.{first_unmet, leaves_met}
-use Rattle.plan_step.specs.Step.{then_next, action_with, action_for, typed_arguments, with_values, made_by, step_from}
-use Rattle.plan_step.specs.Meaning.{Change, put, change, clashes, truth_after, all_fit, IsClean, changed_by, value_after, HasStep}
+use Rattle.plan_step.specs.Step.{then_next, action_with, action_for, typed_arguments, with_values, state_after, made_by, step_from}
+use Rattle.plan_step.specs.Touches.{changes_of}
+use Rattle.plan_step.specs.Making.{StepsBy}
+use Rattle.plan_step.specs.inside.Touching.{changes_in}
+use Rattle.plan_step.specs.Fitting.{fitting}
+use Rattle.plan_step.specs.Meaning.{Change, put, change, clashes, truth_after, all_fit, IsClean, changed_by, value_after, IsInstanceOf, HasStep}
 use Rattle.plan_step.specs.Laws.{IsWide}
 use Rattle.plan_step.proofs.Meanings.{Agrees}
 use Rattle.plan_step.proofs.LeafLaws.{conditions_hold, conditions_fail, changes_are, changes_fail, changed_agrees, HaveValues, have_values}
@@ -208,6 +215,36 @@ step_has_step task old new by is =
       value = λ g args. ap (λ (u : Values). u g args) b.3 ∙ values_are v.0 old.value b.0 b.1 g args;
     }
 
+-- ---- the touches of a step that is made tell its changes
+free_is : (r : Result (Unit {0}) StepFail) (ds cs : List Change) → then_next r (λ _. Ok ds) ≡ Ok cs → (r ≡ Ok tt) × (ds ≡ cs)
+free_is (Ok u) ds cs is = let same : ds ≡ cs = cc in (refl, same)
+free_is (Err e) ds cs is = cc
+
+parts_are : (r : Result (Unit {0}) StepFail) (q : Result (List Change) StepFail) (free : List Change → Result (Unit {0}) StepFail) (cs : List Change)
+    → then_next r (λ _. then_next q (λ changes. then_next (free changes) (λ _. Ok changes))) ≡ Ok cs → (r ≡ Ok tt) × (q ≡ Ok cs) × (free cs ≡ Ok tt)
+parts_are (Ok u) (Ok ds) free cs is = let h = free_is (free ds) ds cs is in (refl, ap (λ (xs : List Change). Ok xs) h.1, ap free (sym h.1) ∙ h.0)
+parts_are (Ok u) (Err e) free cs is = cc
+parts_are (Err e) q free cs is = cc
+
+steps-by : (old new : PlanState) (a : Action) (args : List ℕ) (changes : List Change) → changes_in old args a.conds a.effs ≡ Ok changes → state_after changes old ≡ Ok new → StepsBy old a args changes new
+steps-by old new a args changes all after =
+    let p = parts_are (first_unmet 0 (leaves_met old args a.conds)) (all_changes 0 (map (change_met old args) a.effs)) (first_clash 0 []) changes all in
+    let b = after_is changes old new (values_after changes old.value) after (never_lacks changes old.value (have_values old args a.effs 0 changes p.1)) in
+    record {
+      conditions = conditions_hold old args a.conds 0 p.0;
+      values = changes_are old args a.effs 0 changes p.1;
+      clean = clean changes p.2;
+      truth = b.2;
+      value = λ g others. ap (λ (u : Values). u g others) b.3 ∙ values_are changes old.value b.0 b.1 g others;
+    }
+
+pub steps_by : (old placed new : PlanState) (a : Action) (args : List ℕ) (conds : List Cond) (effs : List Effect) (touches also : List Touch) → conds ≡ a.conds → effs ≡ a.effs
+    → changes_in old args conds effs ≡ Ok (changes_of touches) → also ≡ touches → placed ≡ old → state_after (changes_of also) placed ≡ Ok new → StepsBy old a args (changes_of touches) new
+steps_by old placed new a args conds effs touches also same_conds same_effs all same placed_same after =
+    steps-by old new a args (changes_of touches)
+    (sym (ap₂ (changes_in old args) same_conds same_effs) ∙ all)
+    (sym (ap₂ (λ (ts : List Touch) (t : PlanState). state_after (changes_of ts) t) same placed_same) ∙ after)
+
 -- ---- failures
 next_fails : {A B : Type 0} (r : Result A StepFail) (next : A → Result B StepFail) (e : StepFail) → (r ≡ Err e → IsWide e) → ((a : A) → r ≡ Ok a → next a ≡ Err e → IsWide e) → then_next r next ≡ Err e → IsWide e
 next_fails (Ok a) next e h k is = k a refl is
@@ -246,3 +283,28 @@ step_fails_wide task old new by e h is =
     (λ changes gathered then_clash. let same : h.changes ≡ changes = one_list h.changes changes (sym h.values ∙ changes_are old by.args h.action.effs 0 changes gathered) in
     next_fails (first_clash 0 [] changes) _ e (is_there (first_clash 0 [] changes) tt e (ap (first_clash 0 []) (sym same) ∙ clean_passes h.changes h.clean))
     (λ u free then_values. after_fails changes old (values_after changes old.value) e then_values) then_clash) then_changes) made
+
+typed_parts : (r : Result (Unit {0}) StepFail) (b a : Action) → then_next r (λ _. Ok b) ≡ Ok a → (r ≡ Ok tt) × (b ≡ a)
+typed_parts (Ok u) b a is = let same : b ≡ a = cc in (refl, same)
+typed_parts (Err e) b a is = cc
+
+fitting_parts : (r : Result Action StepFail) (typed : Action → Result (Unit {0}) StepFail) (a : Action) → then_next r (λ b. then_next (typed b) (λ _. Ok b)) ≡ Ok a → (r ≡ Ok a) × (typed a ≡ Ok tt)
+fitting_parts (Ok b) typed a is = let h = typed_parts (typed b) b a is in (ap (λ (c : Action). Ok c) h.1, ap typed (sym h.1) ∙ h.0)
+fitting_parts (Err e) typed a is = cc
+
+-- where the conditions of an instance fail, its step does
+pub conditions_step : (task : TaskParts) (s : PlanState) (by : Instance) (a : Action) → IsInstanceOf task by a → (e : StepFail) → first_unmet 0 (leaves_met s by.args a.conds) ≡ Err e → step_from task s by ≡ Err e
+unfolding step_from
+conditions_step task s by a h e fails =
+    let there : action_for task by ≡ Ok a = action_found (length by.args) (slice_get task.actions by.action) a h.is_action h.arity in
+    let typed : typed_arguments task a by.args ≡ Ok tt = ap (λ b. cond b (Ok tt) (Err fail.ArgType)) h.typed in
+    ap (λ (r : Result Action StepFail). then_next r (λ a. then_next (typed_arguments task a by.args) (λ _. made_by s a by.args))) there
+    ∙ ap (λ (r : Result (Unit {0}) StepFail). then_next r (λ _. made_by s a by.args)) typed
+    ∙ ap (λ (r : Result (Unit {0}) StepFail). then_next r (λ _. then_next (all_changes 0 (map (change_met s by.args) a.effs)) (λ changes. then_next (first_clash 0 [] changes) (λ _. state_after changes s)))) fails
+
+-- an instance that fits an action is one of it
+pub fitting_instance : (task : TaskParts) (by : Instance) (a : Action) → fitting task by ≡ Ok a → IsInstanceOf task by a
+fitting_instance task by a is =
+    let b = fitting_parts (action_for task by) (λ c. typed_arguments task c by.args) a is in
+    let s = action_is (length by.args) (slice_get task.actions by.action) a b.0 in
+    record { is_action = s.0; arity = s.1; typed = typed_is (all_fit task a.params by.args) b.1 }

@@ -11,7 +11,7 @@ use Rattle.plan_step.specs.declared.failure.StepFail.TheVariants as fail
 use Rattle.plan_step.specs.declared.touches.Touch.{Touch}
 use Rattle.plan_step.specs.Effects.{first_clash}
 use Rattle.plan_step.specs.Meaning.{Change, put, change, adds_up, clashes}
-use Rattle.plan_step.specs.inside.Touches.{change_in, changes_of}
+use Rattle.plan_step.specs.Touches.{change_in, changes_of}
 use Rattle.plan_step.specs.inside.Sums.{Table, clash_with, clash_told, IsAdded}
 use Rattle.plan_step.proofs.Booleans.{flipped, or_false, neither_true, number_itself, arguments_itself}
 use Rattle.plan_step.proofs.Restoring.{chosen, one_call}

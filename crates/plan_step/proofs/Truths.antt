@@ -8,9 +8,9 @@ use Rattle.rational.specs.Fraction.{Fraction}
 use Rattle.plan_step.specs.declared.touches.Touch.{Touch}
 use Rattle.plan_step.specs.declared.touches.Touch.TheVariants as touch
 use Rattle.plan_step.specs.State.{PlanState}
-use Rattle.plan_step.specs.inside.Places.{with_atom}
+use Rattle.plan_step.specs.Places.{with_atom}
 use Rattle.plan_step.specs.Meaning.{Change, put, change, puts}
-use Rattle.plan_step.specs.inside.Touches.{change_in}
+use Rattle.plan_step.specs.Touches.{change_in}
 use Rattle.plan_step.specs.inside.Application.{with_truths, put_by}
 use Rattle.plan_step.proofs.Booleans.{flipped}
 

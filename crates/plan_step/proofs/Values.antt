@@ -12,10 +12,10 @@ use Rattle.plan_step.specs.declared.touches.Touch.{Touch}
 use Rattle.plan_step.specs.declared.touches.Touch.TheVariants as touch
 use Rattle.plan_step.specs.State.{PlanState}
 use Rattle.plan_step.specs.Met.{Met, found, passes, and_then}
-use Rattle.plan_step.specs.inside.Places.{with_function}
+use Rattle.plan_step.specs.Places.{with_function}
 use Rattle.plan_step.specs.Effects.{target_met, with_value, values_after}
 use Rattle.plan_step.specs.Meaning.{Change}
-use Rattle.plan_step.specs.inside.Touches.{Target, target_of, change_in, changes_of, HasTarget, DiffersIn, is_function}
+use Rattle.plan_step.specs.Touches.{Target, target_of, change_in, changes_of, HasTarget, DiffersIn, is_function}
 use Rattle.plan_step.specs.inside.Application.{TouchChanges}
 use Rattle.plan_step.proofs.Booleans.{flipped}
 use Rattle.plan_step.proofs.Restoring.{chosen, differs_refl}

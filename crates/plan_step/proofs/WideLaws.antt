@@ -180,6 +180,9 @@ goal_sound state goal = test_sound state [] goal
 
 -- ---- the laws
 
+pub wide_conditions : (state : PlanState) (args : List ℕ) (conds : List Cond) (w : Wide) → first_unmet 0 (leaves_met state args conds) ≡ Err (fail.Wide w) → Passes w.op w.x w.y
+wide_conditions state args conds w is = let P : Result (Unit {0}) StepFail → Type 0 = λ r. Sound r in subst P is (conditions_sound state args conds 0)
+
 pub wide_step : (task : TaskParts) (state : PlanState) (by : Instance) (e : StepFail) → step_from task state by ≡ Err e → TellsWide e
 wide_step task state by e is = let P : Result PlanState StepFail → Type 0 = λ r. Sound r in subst P is (step_sound task state by)
 

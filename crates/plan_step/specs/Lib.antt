@@ -9,8 +9,10 @@ pub mod Conditions
 pub mod Effects
 pub mod Step
 pub mod Repeat
-pub mod Rolling
-pub mod StepsOn
 pub mod Held
+pub mod Places
+pub mod Touches
+pub mod Fitting
+pub mod Undoing
 pub mod Making
 pub mod inside

@@ -4,10 +4,11 @@ ghost use Rattle.std.specs.Prelude.{◌≡◌, OnOk, Some, map};
 ghost use Rattle.plan_step.specs.State.{PlanState};
 ghost use Rattle.plan_step.specs.Met.{found, met_of_value};
 ghost use Rattle.plan_step.specs.Held.{state_of};
-ghost use Rattle.plan_step.specs.inside.Places.{HasFunction, KeepsPlaces};
+ghost use Rattle.plan_step.specs.Places.{HasFunction, KeepsPlaces};
 ghost use Rattle.plan_step.specs.Effects as effects;
 ghost use Rattle.plan_step.specs.Step.{state_after};
-ghost use Rattle.plan_step.specs.inside.Touches.{EachTouch, HasPlace, HasTarget, IsKept, IsUsable, DiffersIn, changes_of, target_of};
+ghost use Rattle.plan_step.specs.Touches.{EachTouch, HasPlace, HasTarget, IsKept, DiffersIn, changes_of, target_of};
+ghost use Rattle.plan_step.specs.inside.Touching.{IsUsable};
 ghost use Rattle.plan_step.specs.inside.Application as application;
 
 use crate::state::State;
@@ -60,8 +61,8 @@ fn put_back(state: &mut State, touch: &Touch)
     }
 }
 
-/// Puts back what the touches keep.
-pub(crate) fn restore(state: &mut State, touches: &[Touch])
+/// Puts back what the touches keep. It takes no memory.
+pub fn restore(state: &mut State, touches: &[Touch])
     requires { EachTouch (HasPlace state.old) touches.now }
     ensures restored { (s : PlanState) → EachTouch (IsKept s) touches.now → DiffersIn (map target_of touches.now) s (state_of state.old) → state_of state.new ≡ s }
     ensures keeps { KeepsPlaces state.old state.new }

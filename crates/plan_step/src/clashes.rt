@@ -5,7 +5,8 @@ ghost use Rattle.std.specs.List.{list_any};
 ghost use Rattle.plan_step.specs.Effects.{first_clash};
 ghost use Rattle.plan_step.specs.Meaning.{adds_up, clashes};
 ghost use Rattle.plan_step.specs.inside.Sums.{clash_with, clash_told, IsAdded};
-ghost use Rattle.plan_step.specs.inside.Touches.{Answers, change_in, changes_of};
+ghost use Rattle.plan_step.specs.Touches.{change_in, changes_of};
+ghost use Rattle.plan_step.specs.inside.Touching.{Answers};
 
 use crate::failure::StepFail;
 use crate::touches::Touch;

@@ -60,8 +60,8 @@ fn meets(state: &State, args: &[u32], cond: &Cond) -> Result<Option<bool>, Wide>
     }
 }
 
-/// Tests the leaves up to the first that doesn't hold.
-pub(crate) fn test_conditions(state: &State, args: &[u32], conds: &[Cond]) -> Result<(), StepFail>
+/// Tests the leaves of a condition in text order, up to the first that doesn't hold; it takes no memory.
+pub fn test_conditions(state: &State, args: &[u32], conds: &[Cond]) -> Result<(), StepFail>
     requires { length conds.now < 2 ^ 32 }
     ensures { result ≡ condition.first_unmet 0 (condition.leaves_met (state_of state.now) args.now conds.now) }
 {

@@ -4,7 +4,7 @@ ghost use Rattle.std.specs.List.{list_all};
 ghost use Rattle.pddl_task.specs.Numbers.{counts_of, are_types};
 ghost use Rattle.plan_step.specs.Meaning as meaning;
 ghost use Rattle.plan_step.specs.Step as steps;
-ghost use Rattle.plan_step.specs.inside.Fitting.{fitting};
+ghost use Rattle.plan_step.specs.Fitting.{fitting};
 
 use crate::failure::StepFail;
 use pddl_task::{Action, Instance, Task};
@@ -57,7 +57,7 @@ fn action_with(task: &Task, action: u32, count: usize) -> Option<&Action>
 }
 
 /// The action of the instance, where it fits.
-pub(crate) fn fitting_action<'a>(task: &'a Task, by: &Instance) -> Result<&'a Action, StepFail>
+pub fn fitting_action<'a>(task: &'a Task, by: &Instance) -> Result<&'a Action, StepFail>
     ensures { MatchResult result (λ a. fitting task.now by.now ≡ Ok a.now) (λ e. fitting task.now by.now ≡ Err e) }
 {
     let Some(action) = action_with(task, by.action, by.args.len()) else {

@@ -1,6 +1,6 @@
 //! Laws: what is evaluated in 128 bits is what the definitions without a bound say. Each stands as a function with an empty
 //! body, whose clauses are the laws.
-ghost use Rattle.std.specs.Prelude.{◌≡◌, ℕ, suc, ◌≤◌, Bool, true, List, [], ◌++◌, replicate, Some, None, Ok, Err};
+ghost use Rattle.std.specs.Prelude.{◌≡◌, ℕ, Bool, true, List, [], ◌++◌, replicate, Some, None, Ok, Err};
 ghost use Rattle.rational.specs.Fraction.{Fraction};
 ghost use Rattle.pddl_task.specs.declared.expression.Expr.{Expr};
 ghost use Rattle.plan_step.specs.State.{PlanState, initial};
@@ -11,10 +11,7 @@ ghost use Rattle.pddl_task.specs.declared.parts.TaskParts.{TaskParts};
 ghost use Rattle.pddl_task.specs.declared.condition.Cond.{Cond};
 ghost use Rattle.plan_step.specs.Conditions.{goal_met};
 ghost use Rattle.plan_step.specs.Step.{step_from};
-ghost use Rattle.pddl_task.specs.Linear.{IsLinear};
 ghost use Rattle.plan_step.specs.Repeat.{repeated_from};
-ghost use Rattle.std.specs.List.{list_all};
-ghost use Rattle.plan_step.specs.Rolling.{IsRollable, keeps, literal_holds, rolled};
 ghost use Rattle.plan_step.specs.Meaning.{all_hold, value_of, HasStep, Run, IsValidPlan};
 ghost use Rattle.frac128.specs.Operations.{Passes};
 ghost use Rattle.frac128.specs.declared.operations.Wide.{Wide};
@@ -92,20 +89,4 @@ pub fn answered_operation_passes()
     ensures step { (task : TaskParts) (state : PlanState) (by : Instance) (e : StepFail) → step_from task state by ≡ Err e → TellsWide e }
     ensures repetition { (task : TaskParts) (by : Instance) (n at : ℕ) (state : PlanState) (f : RepeatFail) → repeated_from task by at n state ≡ Err f → TellsWide f.fail }
     ensures goal { (state : PlanState) (conds : List Cond) (w : Wide) → goal_met state conds ≡ Err w → Passes w.op w.x w.y }
-{}
-
-/// Rolling: where an instance that rolls has its step, and its conditions hold again after n steps at once, it has n + 1 steps
-/// in turn, and they come to what they are at once. Where its conditions hold after n steps they hold after fewer.
-pub fn rolling()
-    ensures runs { (task : TaskParts) (s t : PlanState) (by : Instance) (h : HasStep task s by t) (n : ℕ) → IsLinear task → IsRollable task h.action by.args h.changes
-        → all_hold (rolled h.changes s n) by.args h.action.conds ≡ true → Run task s (replicate (suc n) by) (rolled h.changes s (suc n)) }
-    ensures between { (task : TaskParts) (s t : PlanState) (by : Instance) (h : HasStep task s by t) (m n : ℕ) → IsLinear task → IsRollable task h.action by.args h.changes → m ≤ n
-        → all_hold (rolled h.changes s n) by.args h.action.conds ≡ true → all_hold (rolled h.changes s m) by.args h.action.conds ≡ true }
-{}
-
-/// After a step the state tells whether the literals stay: they hold there exactly where each that holds before the step's
-/// changes holds after them.
-pub fn literals_are_told()
-    ensures { (task : TaskParts) (s t : PlanState) (by : Instance) (h : HasStep task s by t)
-        → list_all (literal_holds t by.args) h.action.conds ≡ list_all (keeps h.changes by.args) h.action.conds }
 {}

@@ -1,5 +1,6 @@
 //! States of a plan and the steps of instances, by definition. Begin with `step`; `State` has the atoms and the values,
-//! `evaluate` the value of an expression, `goal` the test of the goal, and `repeat` makes so many steps in turn.
+//! `evaluate` the value of an expression, `goal` the test of the goal, and `repeat` makes so many steps in turn. What makes many
+//! steps at once stands on `make`, whose touches tell what a step changes and what was there before, and on `restore`.
 #![tactic(auto)]
 
 mod application;
@@ -7,23 +8,22 @@ mod clashes;
 mod conditions;
 mod evaluation;
 mod failure;
-mod growing;
 mod instance;
-mod jumping;
 pub mod laws;
 mod reading;
 mod repeating;
-mod rolling;
 mod state;
 mod stepping;
 mod terms;
 mod touches;
 
-pub use conditions::goal;
+pub use application::restore;
+pub use conditions::{goal, test_conditions};
 pub use evaluation::evaluate;
 pub use failure::{RepeatFail, StepFail};
-pub use growing::value_after;
+pub use instance::fitting_action;
+pub use reading::holds_atom;
 pub use repeating::repeat;
-pub use rolling::leaves_roll;
 pub use state::State;
-pub use stepping::step;
+pub use stepping::{make, step};
+pub use touches::Touch;

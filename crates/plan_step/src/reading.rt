@@ -54,8 +54,8 @@ fn value_of_up_to<const N: usize>(
     state.value(func, &objects[..terms.len()])
 }
 
-/// Whether the atom is true.
-pub(crate) fn holds_atom(state: &State, args: &[u32], pred: u32, terms: &[Term]) -> bool
+/// Whether the atom of these terms is true, at the arguments of an instance. It takes no memory.
+pub fn holds_atom(state: &State, args: &[u32], pred: u32, terms: &[Term]) -> bool
     ensures { result ≡ (state_of state.now).truth pred (objects_of args.now terms.now) }
 {
     if terms.len() <= 16 {

@@ -2,9 +2,9 @@
 //! them all.
 ghost use Rattle.std.specs.Prelude.{◌-◌, ◌<◌, IfErr};
 ghost use Rattle.plan_step.specs.Held.{state_of};
-ghost use Rattle.plan_step.specs.inside.Places.{KeepsPlaces};
-ghost use Rattle.plan_step.specs.inside.Touches.{DiffersIn};
-ghost use Rattle.plan_step.specs.inside.Fitting.{targets_of};
+ghost use Rattle.plan_step.specs.Places.{KeepsPlaces};
+ghost use Rattle.plan_step.specs.Touches.{DiffersIn};
+ghost use Rattle.plan_step.specs.Fitting.{targets_of};
 ghost use Rattle.plan_step.specs.Repeat.{repeated_from, Repeats};
 ghost use Rattle.plan_step.specs.inside.Repeating.{RepeatsOn};
 ghost use Rattle.plan_step.specs.Reasons.{BreaksBy};
@@ -12,7 +12,7 @@ ghost use Rattle.plan_step.specs.Reasons.{BreaksBy};
 use crate::application::restore;
 use crate::failure::RepeatFail;
 use crate::state::State;
-use crate::stepping::{make_step, step_on};
+use crate::stepping::{make_step, step};
 use pddl_task::{Instance, Task};
 use std::alloc::Global;
 
@@ -30,7 +30,7 @@ fn repeat_on(
     ensures keeps { KeepsPlaces state.old state.new }
 {
     for done in 1..times {
-        if let Err(fail) = step_on(alloc, task, state, by) {
+        if let Err(fail) = step(alloc, task, state, by) {
             return Err(RepeatFail { at: done + 1, fail });
         }
     }

@@ -4,7 +4,7 @@ ghost use Rattle.std.specs.Prelude.{◌≡◌, Some, OnOk, IfOk};
 ghost use Rattle.plan_step.specs.State.{initial};
 ghost use Rattle.plan_step.specs.inside.Start.{with_facts, with_given, with_given_values};
 ghost use Rattle.plan_step.specs.Held.{Held, state_of};
-ghost use Rattle.plan_step.specs.inside.Places.{HasAtom, HasFunction, KeepsPlaces, with_atom, with_function};
+ghost use Rattle.plan_step.specs.Places.{HasAtom, HasFunction, KeepsPlaces, with_atom, with_function};
 
 use frac128::Frac;
 use ground_map::{GroundMap, Listed};
@@ -137,7 +137,8 @@ impl State {
         self.truths.put(pred, args, truth);
     }
 
-    pub(crate) fn put_value(&mut self, func: u32, args: &[u32], value: Option<Frac>)
+    /// The function, which has a place, gets this value. It takes no memory.
+    pub fn put_value(&mut self, func: u32, args: &[u32], value: Option<Frac>)
         requires { HasFunction self.old func args.now }
         ensures put { state_of self.new ≡ with_function (state_of self.old) func args.now value }
         ensures keeps { KeepsPlaces self.old self.new }

@@ -1,12 +1,13 @@
 //! One step of an instance. Begin with `step`; `make` does what comes after the tests of the instance.
 ghost use Rattle.std.specs.Prelude.{◌<◌, ◌^◌, length, map, IfOk, IfErr, IsTrue};
 ghost use Rattle.plan_step.specs.Held.{state_of};
-ghost use Rattle.plan_step.specs.inside.Places.{KeepsPlaces};
+ghost use Rattle.plan_step.specs.Places.{KeepsPlaces};
 ghost use Rattle.plan_step.specs.Step.{made_by, step_from};
-ghost use Rattle.plan_step.specs.inside.Fitting.{targets_of};
-ghost use Rattle.plan_step.specs.inside.Touches.{Answers, AreTouches, changes_of, target_in, DiffersIn};
-ghost use Rattle.plan_step.specs.Making.{Makes};
-ghost use Rattle.plan_step.specs.inside.Undoing.{changes_in, WasBefore};
+ghost use Rattle.plan_step.specs.Fitting.{targets_of};
+ghost use Rattle.plan_step.specs.Touches.{changes_of, target_in, EachTouch, HasTarget, DiffersIn};
+ghost use Rattle.plan_step.specs.inside.Touching.{Answers, AreTouches, changes_in};
+ghost use Rattle.plan_step.specs.Making.{Makes, StepsBy};
+ghost use Rattle.plan_step.specs.Undoing.{WasBefore};
 ghost use Rattle.plan_step.specs.Reasons.{FailsBy};
 
 use crate::application::{apply, make_places};
@@ -48,15 +49,19 @@ fn find_touches(
     Ok(touches)
 }
 
-/// Makes a step of an instance of the action, at arguments of its types. The touches tell the state before it. More leaves
-/// than have a number would take more memory than there is, and are answered so.
-pub(crate) fn make(
+/// Makes a step of an instance of the action, at arguments of its types. The touches tell its changes, and the state before
+/// it. After a failure the state is as before. More leaves than have a number would take more memory than there is, and are
+/// answered so.
+pub fn make(
     alloc: Global,
     state: &mut State,
     action: &Action,
     args: &[u32],
 ) -> Result<Items<Touch>, StepFail>
     ensures made { Makes (made_by (state_of state.old) action.now args.now) (state_of state.old) (state_of state.new) result }
+    ensures steps { IfOk result (λ touches. StepsBy (state_of state.old) action.now args.now (changes_of touches) (state_of state.new)) }
+    ensures targets { IfOk result (EachTouch (HasTarget (state_of state.old))) }
+    ensures countable { IfOk result (λ touches. length action.now.conds < 2 ^ 32) }
     ensures before { IfOk result (WasBefore (map (target_in args.now) action.now.effs) (state_of state.old) state.new) }
     ensures keeps { KeepsPlaces state.old state.new }
 {
@@ -86,13 +91,7 @@ pub(crate) fn make_step(
     make(alloc, state, action, by.args.as_slice())
 }
 
-/// Makes one step, which changes at most what the instance touches.
-pub(crate) fn step_on(
-    alloc: Global,
-    task: &Task,
-    state: &mut State,
-    by: &Instance,
-) -> Result<(), StepFail>
+fn step_on(alloc: Global, task: &Task, state: &mut State, by: &Instance) -> Result<(), StepFail>
     ensures made { Makes (step_from task.now (state_of state.old) by.now) (state_of state.old) (state_of state.new) result }
     ensures differs { DiffersIn (targets_of task.now by.now) (state_of state.old) (state_of state.new) }
     ensures keeps { KeepsPlaces state.old state.new }
@@ -101,10 +100,12 @@ pub(crate) fn step_on(
     Ok(())
 }
 
-/// Makes one step. After a failure the state is as before.
+/// Makes one step, which changes at most what the instance touches. After a failure the state is as before.
 pub fn step(alloc: Global, task: &Task, state: &mut State, by: &Instance) -> Result<(), StepFail>
     ensures made { Makes (step_from task.now (state_of state.old) by.now) (state_of state.old) (state_of state.new) result }
     ensures reason { IfErr result (FailsBy task.now (state_of state.old) by.now) }
+    ensures differs { DiffersIn (targets_of task.now by.now) (state_of state.old) (state_of state.new) }
+    ensures keeps { KeepsPlaces state.old state.new }
 {
     step_on(alloc, task, state, by)
 }

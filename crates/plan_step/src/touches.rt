@@ -6,7 +6,8 @@ ghost use Rattle.plan_step.specs.Held.{state_of};
 ghost use Rattle.plan_step.specs.Evaluation.{evaluated};
 ghost use Rattle.plan_step.specs.Meaning.{objects_of, put};
 ghost use Rattle.plan_step.specs.Effects.{target_met, amount_met, change_met, all_changes};
-ghost use Rattle.plan_step.specs.inside.Touches.{Answers, leaf_answer, change_in, changes_of, IsTouch, AreTouches};
+ghost use Rattle.plan_step.specs.Touches.{change_in, changes_of};
+ghost use Rattle.plan_step.specs.inside.Touching.{Answers, leaf_answer, IsTouch, AreTouches};
 
 use crate::evaluation::{evaluate, is_zero};
 use crate::failure::StepFail;
@@ -17,9 +18,10 @@ use pddl_task::{Effect, Expr, NumOp, Term};
 use sqlite_items::Items;
 use std::alloc::{AllocError, Global};
 
-/// The change of a leaf, with the truth or the value that was there before.
+/// What a leaf of an effect changes in an instance: an atom, which becomes true or false, or a function, by an operation and an
+/// amount; with the truth or the value that was there before the step.
 #[derive(Drop)]
-pub(crate) enum Touch {
+pub enum Touch {
     Atom {
         sign: bool,
         pred: u32,

@@ -7,7 +7,7 @@ use Rattle.frac128.specs.declared.operations.Wide.{Wide}
 use Rattle.plan_step.specs.declared.failure.StepFail.{StepFail}
 use Rattle.plan_step.specs.declared.failure.StepFail.TheVariants as fail
 use Rattle.plan_step.specs.State.{PlanState}
-use Rattle.plan_step.specs.inside.Places.{with_atom, with_function}
+use Rattle.plan_step.specs.Places.{with_atom, with_function}
 use Rattle.plan_step.specs.declared.touches.Touch.{Touch}
 use Rattle.plan_step.specs.declared.touches.Touch.TheVariants as touch
 use Rattle.plan_step.specs.Met.{Met, found, passes}

@@ -1,7 +1,7 @@
 use Rattle.std.proofs.Common.{true, false, map, ap, sym, ◌∙◌, Ok}
 use Rattle.plan_step.specs.State.{PlanState}
 use Rattle.plan_step.specs.Held.{state_of}
-use Rattle.plan_step.specs.inside.Touches.{changes_of, target_of}
+use Rattle.plan_step.specs.Touches.{changes_of, target_of}
 use Rattle.plan_step.specs.inside.Application.{with_truths}
 use Rattle.plan_step.proofs.Restoring.{differs_refl, differs_on}
 use Rattle.plan_step.proofs.Applying.{after, truths_differ}

@@ -1,6 +1,6 @@
 use Rattle.std.proofs.Common.{map, ◌∙◌}
 use Rattle.plan_step.specs.Held.{state_of}
-use Rattle.plan_step.specs.inside.Touches.{target_of}
+use Rattle.plan_step.specs.Touches.{target_of}
 use Rattle.plan_step.proofs.Placing.{place_among, keeps_on}
 use Rattle.plan_step.proofs.Restoring.{differs_refl, differs_on}
 use Rattle.plan_step.proofs.Values.{changed_more, truth_step, target_step, differs_at, unchanged}

@@ -1,8 +1,8 @@
 use Rattle.std.proofs.Common.{◌≡◌, map, drop}
 use Rattle.plan_step.specs.Held.{state_of}
-use Rattle.plan_step.specs.inside.Places.{KeepsPlaces}
+use Rattle.plan_step.specs.Places.{KeepsPlaces}
 use Rattle.plan_step.specs.Effects.{values_after}
-use Rattle.plan_step.specs.inside.Touches.{EachTouch, HasTarget, DiffersIn, changes_of, target_of}
+use Rattle.plan_step.specs.Touches.{EachTouch, HasTarget, DiffersIn, changes_of, target_of}
 use Rattle.plan_step.proofs.application.change_values.Given as goal
 
 abbrev pub invariant-loop-touch : goal.invariant-loop-touch

@@ -1,7 +1,7 @@
 use Rattle.std.proofs.Common.{◌≡◌}
 use Rattle.plan_step.specs.Held.{state_of}
-use Rattle.plan_step.specs.inside.Places.{KeepsPlaces}
-use Rattle.plan_step.specs.inside.Touches.{HasPlace}
+use Rattle.plan_step.specs.Places.{KeepsPlaces}
+use Rattle.plan_step.specs.Touches.{HasPlace}
 use Rattle.plan_step.proofs.Placing.{EachBelow}
 use Rattle.plan_step.proofs.application.make_places.Given as goal
 

@@ -1,6 +1,6 @@
 use Rattle.std.proofs.Common.{take, sym, ap, ◌∙◌}
 use Rattle.plan_step.specs.Held.{state_of}
-use Rattle.plan_step.specs.inside.Touches.{changes_of}
+use Rattle.plan_step.specs.Touches.{changes_of}
 use Rattle.plan_step.specs.inside.Application.{put_by, with_truths}
 use Rattle.plan_step.proofs.Placing.{place_among, keeps_on, changes_more}
 use Rattle.plan_step.proofs.Truths.{truths_more}

@@ -1,7 +1,7 @@
 use Rattle.std.proofs.Common.{◌≡◌, take}
 use Rattle.plan_step.specs.Held.{state_of}
-use Rattle.plan_step.specs.inside.Places.{KeepsPlaces}
-use Rattle.plan_step.specs.inside.Touches.{changes_of}
+use Rattle.plan_step.specs.Places.{KeepsPlaces}
+use Rattle.plan_step.specs.Touches.{changes_of}
 use Rattle.plan_step.specs.inside.Application.{with_truths}
 use Rattle.plan_step.proofs.application.put_truths.Given as goal
 

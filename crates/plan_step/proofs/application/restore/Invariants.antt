@@ -1,8 +1,8 @@
 use Rattle.std.proofs.Common.{map, drop}
 use Rattle.plan_step.specs.State.{PlanState}
 use Rattle.plan_step.specs.Held.{state_of}
-use Rattle.plan_step.specs.inside.Places.{KeepsPlaces}
-use Rattle.plan_step.specs.inside.Touches.{EachTouch, IsKept, DiffersIn, target_of}
+use Rattle.plan_step.specs.Places.{KeepsPlaces}
+use Rattle.plan_step.specs.Touches.{EachTouch, IsKept, DiffersIn, target_of}
 use Rattle.plan_step.proofs.application.restore.Given as goal
 
 abbrev pub invariant-loop-touch : goal.invariant-loop-touch

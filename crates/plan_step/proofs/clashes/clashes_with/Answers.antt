@@ -1,6 +1,6 @@
 use Rattle.std.proofs.Common.{sym, ◌∙◌}
 use Rattle.plan_step.specs.Meaning.{clashes}
-use Rattle.plan_step.specs.inside.Touches.{change_in}
+use Rattle.plan_step.specs.Touches.{change_in}
 use Rattle.plan_step.proofs.Clashing.{among}
 use Rattle.plan_step.proofs.clashes.clashes_with.Goals as goal
 

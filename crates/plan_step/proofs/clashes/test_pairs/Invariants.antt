@@ -1,6 +1,6 @@
 use Rattle.std.proofs.Common.{◌≡◌, [], take, drop}
 use Rattle.plan_step.specs.Effects.{first_clash}
-use Rattle.plan_step.specs.inside.Touches.{changes_of}
+use Rattle.plan_step.specs.Touches.{changes_of}
 use Rattle.plan_step.proofs.clashes.test_pairs.Given as goal
 
 abbrev pub invariant-loop-i : goal.invariant-loop-i

@@ -1,5 +1,5 @@
 use Rattle.std.proofs.Common.{sym, refl, ◌∙◌, take, arith, subst, ◌∷◌}
-use Rattle.plan_step.specs.inside.Touches.{changes_of, change_in}
+use Rattle.plan_step.specs.Touches.{changes_of, change_in}
 use Rattle.plan_step.proofs.Placing.{changes_more}
 use Rattle.plan_step.proofs.Tabling.{Tells, clash_is, tells_more, head_kept, clashes_here, no_clash_here}
 use Rattle.plan_step.proofs.clashes.test_table.Goals as goal

@@ -8,20 +8,20 @@ use Rattle.plan_step.proofs.repeating.repeat_on.Goals as goal
 pub returns-in-Err-clause-repeats : goal.returns-in-Err-clause-repeats
 returns-in-Err-clause-repeats c =
     let done = c.loop-done.done in
-    answers_fail c.args.task.now c.args.by.now _ (done + 1) (c.args.times - done) (c.args.times - (done + 1)) (state_of c.loop-done.state) (state_of c.step_on.new.state) c.in-Err.fail
+    answers_fail c.args.task.now c.args.by.now _ (done + 1) (c.args.times - done) (c.args.times - (done + 1)) (state_of c.loop-done.state) (state_of c.step.new.state) c.in-Err.fail
     c.loop-done.invariant.meant (omega arith) c.in-Err.ensures.made
 
 pub returns-in-Err-clause-differs : goal.returns-in-Err-clause-differs
-returns-in-Err-clause-differs c = differs_on _ _ _ _ c.loop-done.invariant.differs c.step_on.ensures.differs
+returns-in-Err-clause-differs c = differs_on _ _ _ _ c.loop-done.invariant.differs c.step.ensures.differs
 
 pub loop-done-preserved : goal.loop-done-preserved
 loop-done-preserved c =
     let done = c.loop-done.done in
     record {
       meant = c.loop-done.invariant.meant
-          ∙ repeated_more c.args.task.now c.args.by.now (done + 1) (c.args.times - done) (c.args.times - (done + 1)) (state_of c.loop-done.state) (state_of c.step_on.new.state) (omega arith) (made_where _ _ _ c.step_on.result c.step_on.ensures.made c.in_default.not-Err);
-      differs = differs_on _ _ _ _ c.loop-done.invariant.differs c.step_on.ensures.differs;
-      keeps = keeps_on _ _ _ c.loop-done.invariant.keeps c.step_on.ensures.keeps;
+          ∙ repeated_more c.args.task.now c.args.by.now (done + 1) (c.args.times - done) (c.args.times - (done + 1)) (state_of c.loop-done.state) (state_of c.step.new.state) (omega arith) (made_where _ _ _ c.step.result c.step.ensures.made c.in_default.not-Err);
+      differs = differs_on _ _ _ _ c.loop-done.invariant.differs c.step.ensures.differs;
+      keeps = keeps_on _ _ _ c.loop-done.invariant.keeps c.step.ensures.keeps;
     }
 
 pub returns-clause-repeats : goal.returns-clause-repeats

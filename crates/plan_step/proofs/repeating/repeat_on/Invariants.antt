@@ -1,8 +1,8 @@
 use Rattle.std.proofs.Common.{◌≡◌, ◌+◌, ◌-◌}
 use Rattle.plan_step.specs.Held.{state_of}
-use Rattle.plan_step.specs.inside.Places.{KeepsPlaces}
-use Rattle.plan_step.specs.inside.Touches.{DiffersIn}
-use Rattle.plan_step.specs.inside.Fitting.{targets_of}
+use Rattle.plan_step.specs.Places.{KeepsPlaces}
+use Rattle.plan_step.specs.Touches.{DiffersIn}
+use Rattle.plan_step.specs.Fitting.{targets_of}
 use Rattle.plan_step.specs.Repeat.{repeated_from}
 use Rattle.plan_step.proofs.repeating.repeat_on.Given as goal
 

@@ -1,7 +1,7 @@
 use Rattle.std.proofs.Common.{true, ap, ◌∙◌}
 use Rattle.plan_step.specs.State.{PlanState}
 use Rattle.plan_step.specs.Held.{state_of}
-use Rattle.plan_step.specs.inside.Places.{with_atom}
+use Rattle.plan_step.specs.Places.{with_atom}
 use Rattle.plan_step.proofs.Starting.{facts_more}
 use Rattle.plan_step.proofs.state.add_facts.Goals as goal
 

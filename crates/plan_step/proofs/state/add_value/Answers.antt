@@ -1,7 +1,7 @@
 use Rattle.std.proofs.Common.{Some, sym, ap, ◌∙◌}
 use Rattle.plan_step.specs.State.{PlanState}
 use Rattle.plan_step.specs.Held.{state_of}
-use Rattle.plan_step.specs.inside.Places.{with_function}
+use Rattle.plan_step.specs.Places.{with_function}
 use Rattle.plan_step.proofs.Starting.{given_more, has_none}
 use Rattle.plan_step.proofs.state.add_value.Goals as goal
 

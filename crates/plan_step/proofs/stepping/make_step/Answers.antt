@@ -5,9 +5,9 @@ use Rattle.plan_step.specs.declared.touches.Touch.{Touch}
 use Rattle.plan_step.specs.State.{PlanState}
 use Rattle.plan_step.specs.Held.{state_of}
 use Rattle.plan_step.specs.Step.{made_by}
-use Rattle.plan_step.specs.inside.Touches.{Target, target_in}
+use Rattle.plan_step.specs.Touches.{Target, target_in}
 use Rattle.plan_step.specs.Making.{Makes}
-use Rattle.plan_step.specs.inside.Undoing.{WasBefore}
+use Rattle.plan_step.specs.Undoing.{WasBefore}
 use Rattle.plan_step.proofs.Fitting.{step_fits, step_fails, targets_fit, makes_fail}
 use Rattle.plan_step.proofs.stepping.make_step.Goals as goal
 

@@ -1,5 +1,5 @@
 use Rattle.plan_step.specs.Held.{state_of}
-use Rattle.plan_step.specs.inside.Fitting.{targets_of}
+use Rattle.plan_step.specs.Fitting.{targets_of}
 use Rattle.plan_step.proofs.Fitting.{fails_same}
 use Rattle.plan_step.proofs.stepping.step_on.Goals as goal
 

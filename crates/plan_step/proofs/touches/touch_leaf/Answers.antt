@@ -4,7 +4,8 @@ use Rattle.pddl_task.specs.declared.effect.Effect.{Effect}
 use Rattle.pddl_task.specs.declared.effect.Effect.TheVariants as effect
 use Rattle.plan_step.specs.Held.{state_of}
 use Rattle.plan_step.specs.Effects.{change_met}
-use Rattle.plan_step.specs.inside.Touches.{Answers, leaf_answer, change_in}
+use Rattle.plan_step.specs.Touches.{change_in}
+use Rattle.plan_step.specs.inside.Touching.{Answers, leaf_answer}
 use Rattle.plan_step.proofs.touches.touch_leaf.Goals as goal
 
 pub returns-in-Change-clause-meant : goal.returns-in-Change-clause-meant

@@ -1,6 +1,6 @@
 use Rattle.std.proofs.lemmas.Result.{err_from_is_err_and}
 use Rattle.plan_step.specs.Held.{state_of}
-use Rattle.plan_step.specs.inside.Touches.{change_in, changes_of}
+use Rattle.plan_step.specs.Touches.{change_in, changes_of}
 use Rattle.plan_step.proofs.Answering.{failed_as}
 use Rattle.plan_step.proofs.Gathering.{gathering_fails, gathered_more, touches_more}
 use Rattle.plan_step.proofs.touches.touches_of.Goals as goal

@@ -1,6 +1,6 @@
 use Rattle.std.proofs.Common.{take}
 use Rattle.plan_step.specs.Held.{state_of}
-use Rattle.plan_step.specs.inside.Touches.{AreTouches}
+use Rattle.plan_step.specs.inside.Touching.{AreTouches}
 use Rattle.plan_step.proofs.Gathering.{IsGathered}
 use Rattle.plan_step.proofs.touches.touches_of.Given as goal
 

@@ -1,0 +1,116 @@
+-- The first step of an instance, by its touches; and where it rolls, what a jump stands on.
+use Rattle.std.proofs.Common.{◌≡◌, ℕ, zero, suc, ◌<◌, Bool, true, false, ◌&&◌, List, [], ◌∷◌, map, length, get_or, Option, Some, None, Result, Ok, refl, sym, ap, subst, ◌∙◌, arith}
+use Rattle.std.specs.Prelude.{is_some}
+use Rattle.std.specs.List.{list_all}
+use Rattle.std.proofs.lemmas.Bool.{and_parts}
+use lib.IntN.{pos}
+use Rattle.rational.specs.Fraction.{Fraction, whole}
+use Rattle.pddl_task.specs.Task.{is_changing_func}
+use Rattle.pddl_task.specs.declared.action.Action.{Action}
+use Rattle.pddl_task.specs.declared.effect.NumOp.{NumOp}
+use Rattle.pddl_task.specs.declared.effect.NumOp.TheVariants.{Assign, Increase, Decrease, ScaleUp, ScaleDown}
+use Rattle.pddl_task.specs.declared.instance.Instance.{Instance}
+use Rattle.pddl_task.specs.declared.parts.TaskParts.{TaskParts}
+use Rattle.plan_step.specs.declared.touches.Touch.{Touch}
+use Rattle.plan_step.specs.declared.touches.Touch.TheVariants as touch
+use Rattle.plan_step.specs.State.{PlanState}
+use Rattle.plan_step.specs.Met.{found}
+use Rattle.plan_step.specs.Making.{StepsBy}
+use Rattle.plan_step.specs.Fitting.{fitting}
+use Rattle.plan_step.proofs.StepLaws.{fitting_instance}
+use Rattle.plan_step.specs.Meaning.{adds_up, HasStep}
+use Rattle.plan_step.specs.Effects.{target_met}
+use Rattle.plan_step.specs.Touches.{change_in, changes_of, EachTouch, IsKept, HasTarget}
+use Rattle.plan_repeat.specs.Rolling.{growth, IsRollable}
+use Rattle.plan_repeat.specs.inside.Jumping.{HasGrowth, IsGrowth, IsBase}
+use Rattle.plan_repeat.specs.inside.Repeating.{IsBegun, Rolls}
+use Rattle.plan_repeat.proofs.RolledSteps.{is_sum, all-sums, literals-told}
+use Rattle.plan_repeat.proofs.Bases.{HasOld, base-first}
+
+-- a sum needs the value that was there
+some_there : (o : Option Fraction) (op : NumOp) → adds_up op ≡ true → target_met op o ≡ found tt → is_some o ≡ true
+some_there (Some x) op sum h = refl
+some_there None Assign sum h = absurd (cc)
+some_there None Increase sum h = absurd (cc)
+some_there None Decrease sum h = absurd (cc)
+some_there None ScaleUp sum h = absurd (cc)
+some_there None ScaleDown sum h = absurd (cc)
+
+has_old : (s : PlanState) (touches : List Touch) (qs : List Fraction) (t : Touch) → is_sum (change_in t) ≡ true → IsKept s t → HasTarget s t → HasOld s touches qs t
+has_old s touches qs (touch.Atom sign p args kept) sum h k = tt
+has_old s touches qs (touch.Function op f args by kept) sum h k = ap is_some h ∙ some_there (s.value f args) op sum k
+
+sum_at : (touches : List Touch) (i : ℕ) (t : Touch) → i < length touches → t ≡ get_or touches i t → list_all is_sum (changes_of touches) ≡ true → is_sum (change_in t) ≡ true
+sum_at [] i t l is all = absurd (omega arith)
+sum_at (u ∷ us) zero t l is all = ap (λ (w : Touch). is_sum (change_in w)) is ∙ (and_parts (is_sum (change_in u)) (list_all is_sum (changes_of us)) all).0
+sum_at (u ∷ us) (suc i) t l is all = sum_at us i t (omega arith) is (and_parts (is_sum (change_in u)) (list_all is_sum (changes_of us)) all).1
+
+-- some touch stands at each place
+record TouchAt (touches : List Touch) (i : ℕ) : Type 0 where
+  pub t : Touch
+  pub is : t ≡ get_or touches i t
+
+touch_at : (touches : List Touch) (i : ℕ) → i < length touches → TouchAt touches i
+touch_at [] i l = absurd (omega arith)
+touch_at (u ∷ us) zero l = record { t = u; is = refl }
+touch_at (u ∷ us) (suc i) l = let h = touch_at us i (omega arith) in record { t = h.t; is = h.is }
+
+-- what grows is a function
+pub record GrowsSome (touches : List Touch) : Type 0 where
+  pub func : ℕ
+  pub objects : List ℕ
+  pub grows : growth (changes_of touches) func objects ≡ whole (pos 0) → ⊥
+
+grows_some : (touches : List Touch) (now : PlanState) (t : Touch) (q : Fraction) → (q ≡ whole (pos 0) → ⊥) → IsGrowth now t q → HasGrowth (changes_of touches) t q → GrowsSome touches
+grows_some touches now (touch.Atom sign p args kept) q other is has = absurd (other is)
+grows_some touches now (touch.Function op f args by kept) q other is has = record { func = f; objects = args; grows = λ e. other (has ∙ e) }
+
+module _ (task : TaskParts) (by : Instance) (action : Action) (touches : List Touch) (s now : PlanState) (h : IsBegun task by action touches s now) where
+  unfoldable pub begun-step : HasStep task s by now
+  begun-step = record {
+    action = action;
+    of_action = h.of_action;
+    conditions = h.steps.conditions;
+    changes = changes_of touches;
+    values = h.steps.values;
+    clean = h.steps.clean;
+    truth = h.steps.truth;
+    value = h.steps.value;
+  }
+
+  module _ (qs : List Fraction) (r : Rolls task now by.args action.conds action.effs touches qs) where
+    sums : list_all is_sum (changes_of touches) ≡ true
+    sums = all-sums (is_changing_func task.actions) s by.args action.effs (changes_of touches) h.steps.values r.even
+
+    pub begun-base : IsBase s touches qs now
+    begun-base = base-first s touches qs now h.steps.truth h.steps.value sums h.kept
+        (λ i t l is. has_old s touches qs t (sum_at touches i t l is sums) (h.kept i t l is) (h.targets i t l is)) r.growths
+
+    some : GrowsSome touches
+    some =
+        let count : length qs ≡ length touches = r.growths.length_is in
+        let inside : r.some.place < length qs = r.some.within in
+        let within : r.some.place < length touches = omega arith in
+        let a = touch_at touches r.some.place within in
+        grows_some touches now a.t (get_or qs r.some.place (whole (pos 0))) r.some.grows (r.growths.each r.some.place a.t within a.is) (begun-base.grown r.some.place a.t within a.is)
+
+    pub begun-rolls : IsRollable task action by.args (changes_of touches)
+    unfolding begun-step
+    begun-rolls = record {
+      even = r.even;
+      keeps_literals = sym (literals-told task s now by begun-step) ∙ r.literals;
+      func = some.func;
+      objects = some.objects;
+      grows = some.grows;
+    }
+
+-- what `make` tells of its touches
+pub is-begun : (task : TaskParts) (by : Instance) (action : Action) (args : List ℕ) (touches also : List Touch) (s now : PlanState) → fitting task by ≡ Ok action → args ≡ by.args → also ≡ touches
+    → StepsBy s action args (changes_of touches) now → EachTouch (IsKept s) touches → EachTouch (HasTarget s) touches → IsBegun task by action also s now
+is-begun task by action args touches also s now fits same same_touches steps kept targets =
+    subst (λ (ts : List Touch). IsBegun task by action ts s now) (sym same_touches) (record {
+      of_action = fitting_instance task by action fits;
+      steps = subst (λ (xs : List ℕ). StepsBy s action xs (changes_of touches) now) same steps;
+      kept = kept;
+      targets = targets;
+    })

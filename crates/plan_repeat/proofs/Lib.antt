@@ -1,0 +1,10 @@
+pub mod Even
+pub mod Reading
+pub mod Between
+pub mod RolledSteps
+pub mod RollingOn
+pub mod Bases
+pub mod Jumps
+pub mod JumpEnds
+pub mod Beginning
+pub mod RepeatLaws

@@ -1,0 +1,6 @@
+pub mod Rolling
+pub mod StepsOn
+pub mod Halving
+pub mod Jump
+pub mod Repeat
+pub mod inside

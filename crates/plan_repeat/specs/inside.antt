@@ -1,0 +1,3 @@
+-- What the clauses of private functions say. No public clause cites these files.
+pub mod Jumping
+pub mod Repeating

@@ -1,7 +1,0 @@
-use Rattle.pddl_task.specs.Task.{is_changing_func}
-use Rattle.plan_step.specs.Rolling.{is_even}
-use Rattle.plan_step.proofs.Changing.{AllSoFar}
-use Rattle.plan_step.proofs.rolling.are_even.Given as goal
-
-abbrev pub invariant-loop-effect : goal.invariant-loop-effect
-invariant-loop-effect l = AllSoFar (is_even (is_changing_func l.task.actions)) l.effs l.effect-index
