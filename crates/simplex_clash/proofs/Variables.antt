@@ -77,7 +77,7 @@ keeps_atoms : (ts : Terms) (rows : List Linear) (atoms : List (Option Atom)) →
 keeps_atoms ts rows [] h = h
 keeps_atoms ts rows (a ∷ atoms) h = keeps_atoms ts (with_atom rows a) atoms (keeps_atom ts rows a h)
 
-has_row : (rows : List Linear) (atoms : List (Option Atom)) (b : ℕ) (a : Atom) → slice_get atoms b ≡ Some (Some a) → is_one_term a.lin.terms ≡ false
+pub has_row : (rows : List Linear) (atoms : List (Option Atom)) (b : ℕ) (a : Atom) → slice_get atoms b ≡ Some (Some a) → is_one_term a.lin.terms ≡ false
     → row_with a.lin.terms (with_atoms rows atoms) < length (with_atoms rows atoms)
 has_row rows [] b a e f = absurd (cc)
 has_row rows (x ∷ atoms) zero a e f =

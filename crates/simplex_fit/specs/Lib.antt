@@ -1,0 +1,3 @@
+pub mod Fit
+pub mod Assigned
+pub mod inside
