@@ -1,3 +1,3 @@
+pub mod Runs
 pub mod Parts
-pub mod Judgements
-pub mod Reaching
+pub mod Meanings

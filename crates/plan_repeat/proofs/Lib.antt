@@ -8,3 +8,4 @@ pub mod Jumps
 pub mod JumpEnds
 pub mod Beginning
 pub mod RepeatLaws
+pub mod BreakLaws

@@ -2,7 +2,8 @@
 //! `x` and `y`, and the predicate `p`.
 use crate::failures::show_fail;
 use pddl_task::{Instance, Task};
-use plan_step::{RepeatFail, State, StepFail, repeat, step};
+use plan_repeat::{RepeatFail, repeat};
+use plan_step::{State, StepFail, step};
 use row_files::show_fraction;
 use sqlite_items::Items;
 use std::alloc::{AllocError, Global};

@@ -15,7 +15,6 @@ pub mod Applying
 pub mod Tabling
 pub mod Making
 pub mod Fitting
-pub mod Repetitions
 pub mod Starting
 pub mod Meanings
 pub mod LeafLaws

@@ -18,14 +18,12 @@ use Rattle.pddl_task.specs.declared.instance.Instance.{Instance}
 use Rattle.pddl_task.specs.declared.parts.TaskParts.{TaskParts}
 use Rattle.plan_step.specs.declared.failure.StepFail.{StepFail}
 use Rattle.plan_step.specs.declared.failure.StepFail.TheVariants as fail
-use Rattle.plan_step.specs.declared.failure.RepeatFail.{RepeatFail}
 use Rattle.plan_step.specs.State.{PlanState}
 use Rattle.plan_step.specs.Met.{Met, found, lacks, passes, and_then, is_past, passes_128}
 use Rattle.plan_step.specs.Evaluation.{evaluated}
 use Rattle.plan_step.specs.Conditions.{leaf_met, leaves_met, first_unmet, all_met, goal_met}
 use Rattle.plan_step.specs.Effects.{change_met, all_changes, more_changes, first_clash, changed, with_value, values_after}
 use Rattle.plan_step.specs.Step.{then_next, action_with, action_for, typed_arguments, with_values, made_by, step_from}
-use Rattle.plan_step.specs.Repeat.{then_again, repeated_from}
 use Rattle.plan_step.specs.Meaning.{Change, put, change, clashes, all_fit, holds, change_of, changed_by}
 use Rattle.plan_step.specs.Laws.{TellsWide}
 use Rattle.plan_step.proofs.Meanings.{IsPast, Agrees, passes_is}
@@ -53,10 +51,6 @@ SoundMet (passes w) = IsPast w
 abbrev Sound : {A : Type 0} → Result A StepFail → Type 0
 Sound (Ok a) = Unit {0}
 Sound (Err e) = TellsWide e
-
-abbrev SoundRepeat : Result PlanState RepeatFail → Type 0
-SoundRepeat (Ok s) = Unit {0}
-SoundRepeat (Err f) = TellsWide f.fail
 
 abbrev SoundTest : Result Bool Wide → Type 0
 SoundTest (Ok b) = Unit {0}
@@ -165,15 +159,6 @@ step_sound task state by =
     next_sound (action_for task by) _ (action_sound (length by.args) (slice_get task.actions by.action))
     (λ a. next_sound (typed_arguments task a by.args) _ (typed_sound (all_fit task a.params by.args)) (λ _. made_sound state a by.args))
 
-again_sound : (at : ℕ) (r : Result PlanState StepFail) (next : PlanState → Result PlanState RepeatFail) → Sound r → ((s : PlanState) → SoundRepeat (next s)) → SoundRepeat (then_again at r next)
-again_sound at (Ok s) next h k = k s
-again_sound at (Err e) next h k = h
-
-repeat_sound : (task : TaskParts) (by : Instance) (n at : ℕ) (state : PlanState) → SoundRepeat (repeated_from task by at n state)
-unfolding repeated_from
-repeat_sound task by zero at state = tt
-repeat_sound task by (suc n) at state = again_sound at (step_from task state by) (repeated_from task by (at + 1) n) (step_sound task state by) (λ s. repeat_sound task by n (at + 1) s)
-
 goal_sound : (state : PlanState) (goal : List Cond) → SoundTest (goal_met state goal)
 unfolding goal_met
 goal_sound state goal = test_sound state [] goal
@@ -185,9 +170,6 @@ wide_conditions state args conds w is = let P : Result (Unit {0}) StepFail → T
 
 pub wide_step : (task : TaskParts) (state : PlanState) (by : Instance) (e : StepFail) → step_from task state by ≡ Err e → TellsWide e
 wide_step task state by e is = let P : Result PlanState StepFail → Type 0 = λ r. Sound r in subst P is (step_sound task state by)
-
-pub wide_repetition : (task : TaskParts) (by : Instance) (n at : ℕ) (state : PlanState) (f : RepeatFail) → repeated_from task by at n state ≡ Err f → TellsWide f.fail
-wide_repetition task by n at state f is = subst SoundRepeat is (repeat_sound task by n at state)
 
 pub wide_goal : (state : PlanState) (goal : List Cond) (w : Wide) → goal_met state goal ≡ Err w → Passes w.op w.x w.y
 wide_goal state goal w is = subst SoundTest is (goal_sound state goal)

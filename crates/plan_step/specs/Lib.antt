@@ -8,7 +8,6 @@ pub mod Evaluation
 pub mod Conditions
 pub mod Effects
 pub mod Step
-pub mod Repeat
 pub mod Held
 pub mod Places
 pub mod Touches

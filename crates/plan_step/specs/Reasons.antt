@@ -1,7 +1,7 @@
 -- What each failure of a step means, in unlimited fractions. What a step needs is looked for in this order: the action, the
 -- types of its arguments, the leaves of its condition, the values that the leaves of its effect need, and that no two of
 -- these clash (PDDL 2.1, level 2; the order is this project's).
-use Rattle.std.specs.Prelude.{◌≡◌, ℕ, ◌+◌, ◌<◌, true, false, List, map, length, take, replicate, slice_get, Some, None}
+use Rattle.std.specs.Prelude.{◌≡◌, ℕ, ◌<◌, true, false, List, map, length, take, slice_get, Some, None}
 use Rattle.frac128.specs.Operations.{Passes}
 use Rattle.pddl_task.specs.declared.action.Action.{Action}
 use Rattle.pddl_task.specs.declared.condition.Cond.{Cond}
@@ -11,7 +11,7 @@ use Rattle.pddl_task.specs.declared.parts.TaskParts.{TaskParts}
 use Rattle.plan_step.specs.declared.failure.StepFail.{StepFail}
 use Rattle.plan_step.specs.declared.failure.StepFail.TheVariants as fail
 use Rattle.plan_step.specs.State.{PlanState}
-use Rattle.plan_step.specs.Meaning.{Change, clashes, fits, holds, all_hold, change_of, IsClean, IsInstanceOf, Run}
+use Rattle.plan_step.specs.Meaning.{Change, clashes, fits, holds, all_hold, change_of, IsClean, IsInstanceOf}
 
 -- no action has the instance's number and takes so many arguments
 abbrev pub HasNoAction : TaskParts → Instance → Type 0
@@ -75,17 +75,3 @@ FailsBy task s by (fail.NoValue i) = IsFirstWithoutValue task s by i
 FailsBy task s by (fail.Clash i) = IsFirstClash task s by i
 FailsBy task s by (fail.Wide w) = Passes w.op w.x w.y
 FailsBy task s by fail.Memory = Unit {0}
-
--- a repetition breaks off: so many of its steps are made from the state, and the next one fails by this reason
-pub record BreaksAt (task : TaskParts) (s : PlanState) (by : Instance) (times at : ℕ) (e : StepFail) : Type 0 where
-  pub made : ℕ
-  pub within : made < times
-  pub number : at ≡ made + 1
-  pub reached : PlanState
-  pub run : Run task s (replicate made by) reached
-  pub reason : FailsBy task reached by e
-
--- for want of memory the number says nothing
-abbrev pub BreaksBy : TaskParts → PlanState → Instance → ℕ → ℕ → StepFail → Type 0
-BreaksBy task s by times at fail.Memory = Unit {0}
-BreaksBy task s by times at e = BreaksAt task s by times at e

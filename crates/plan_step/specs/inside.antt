@@ -3,4 +3,3 @@ pub mod Start
 pub mod Touching
 pub mod Application
 pub mod Sums
-pub mod Repeating

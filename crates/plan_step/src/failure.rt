@@ -1,4 +1,4 @@
-//! Failures of a step, and of a repetition.
+//! Failures of a step.
 ghost use Rattle.std.specs.Prelude.{◌≡◌};
 
 use frac128::Wide;
@@ -49,12 +49,4 @@ impl From<Wide> for StepFail {
     fn from(wide: Wide) -> StepFail {
         StepFail::Wide(wide)
     }
-}
-
-/// The first repetition that fails, from 1, and why. Where memory is wanting `at` says nothing.
-#[derive(Debug, Drop, Error)]
-#[error("repetition {at}: {fail}")]
-pub struct RepeatFail {
-    pub at: u128,
-    pub fail: StepFail,
 }

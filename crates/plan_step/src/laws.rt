@@ -1,6 +1,6 @@
 //! Laws: what is evaluated in 128 bits is what the definitions without a bound say. Each stands as a function with an empty
 //! body, whose clauses are the laws.
-ghost use Rattle.std.specs.Prelude.{◌≡◌, ℕ, Bool, true, List, [], ◌++◌, replicate, Some, None, Ok, Err};
+ghost use Rattle.std.specs.Prelude.{◌≡◌, ℕ, Bool, true, List, [], Some, None, Ok, Err};
 ghost use Rattle.rational.specs.Fraction.{Fraction};
 ghost use Rattle.pddl_task.specs.declared.expression.Expr.{Expr};
 ghost use Rattle.plan_step.specs.State.{PlanState, initial};
@@ -11,14 +11,12 @@ ghost use Rattle.pddl_task.specs.declared.parts.TaskParts.{TaskParts};
 ghost use Rattle.pddl_task.specs.declared.condition.Cond.{Cond};
 ghost use Rattle.plan_step.specs.Conditions.{goal_met};
 ghost use Rattle.plan_step.specs.Step.{step_from};
-ghost use Rattle.plan_step.specs.Repeat.{repeated_from};
 ghost use Rattle.plan_step.specs.Meaning.{all_hold, value_of, HasStep, Run, IsValidPlan};
 ghost use Rattle.frac128.specs.Operations.{Passes};
 ghost use Rattle.frac128.specs.declared.operations.Wide.{Wide};
 ghost use Rattle.plan_step.specs.Laws.{IsWide, IsRefutal, TellsWide, FailsOnly};
 ghost use Rattle.plan_step.specs.Reasons.{FailsBy};
 ghost use Rattle.plan_step.specs.declared.failure.StepFail.{StepFail};
-ghost use Rattle.plan_step.specs.declared.failure.RepeatFail.{RepeatFail};
 
 /// An evaluation that finds a value finds the value, and one that meets a part without a value has none.
 #[tactic(auto, using(crate::proofs::Meanings::found_is, crate::proofs::Meanings::lacks_is))]
@@ -58,18 +56,6 @@ pub fn one_run_from_a_state()
     ensures { (task : TaskParts) (plan : List Instance) (old s t : PlanState) → Run task old plan s → Run task old plan t → s ≡ t }
 {}
 
-/// A repetition that is made is a run, with what runs after it.
-#[tactic(auto, using(crate::proofs::RunLaws::made_run))]
-pub fn made_repetition_is_a_run()
-    ensures { (task : TaskParts) (by : Instance) (n at : ℕ) (s t u : PlanState) (more : List Instance) → repeated_from task by at n s ≡ Ok t → Run task t more u → Run task s (replicate n by ++ more) u }
-{}
-
-/// Where an instance has so many steps in turn, their repetition fails, if at all, because an operation passes 128 bits.
-#[tactic(auto, using(crate::proofs::RunLaws::failed_wide))]
-pub fn failed_repetition_is_none()
-    ensures { (task : TaskParts) (by : Instance) (n at : ℕ) (s u : PlanState) (more : List Instance) (f : RepeatFail) → repeated_from task by at n s ≡ Err f → Run task s (replicate n by ++ more) u → IsWide f.fail }
-{}
-
 /// What the test of a goal says is so.
 pub fn tested_goal_holds()
     ensures { (state : PlanState) (conds : List Cond) (answer : Bool) → goal_met state conds ≡ Ok answer → all_hold state [] conds ≡ answer }
@@ -81,12 +67,11 @@ pub fn plan_of_no_steps()
     ensures only_valid { (task : TaskParts) → IsValidPlan task [] → all_hold (initial task) [] task.goal ≡ true }
 {}
 
-/// An operation that an evaluation, a step, a repetition or the test of a goal answers passes 128 bits; and the definitions
+/// An operation that an evaluation, a step or the test of a goal answers passes 128 bits; and the definitions
 /// know nothing of memory.
-#[tactic(auto, using(crate::proofs::WideLaws::wide_value, crate::proofs::WideLaws::wide_step, crate::proofs::WideLaws::wide_repetition, crate::proofs::WideLaws::wide_goal))]
+#[tactic(auto, using(crate::proofs::WideLaws::wide_value, crate::proofs::WideLaws::wide_step, crate::proofs::WideLaws::wide_goal))]
 pub fn answered_operation_passes()
     ensures value { (state : PlanState) (args : List ℕ) (e : Expr) (w : Wide) → evaluated state args e ≡ passes w → Passes w.op w.x w.y }
     ensures step { (task : TaskParts) (state : PlanState) (by : Instance) (e : StepFail) → step_from task state by ≡ Err e → TellsWide e }
-    ensures repetition { (task : TaskParts) (by : Instance) (n at : ℕ) (state : PlanState) (f : RepeatFail) → repeated_from task by at n state ≡ Err f → TellsWide f.fail }
     ensures goal { (state : PlanState) (conds : List Cond) (w : Wide) → goal_met state conds ≡ Err w → Passes w.op w.x w.y }
 {}

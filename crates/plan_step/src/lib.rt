@@ -1,6 +1,6 @@
 //! States of a plan and the steps of instances, by definition. Begin with `step`; `State` has the atoms and the values,
-//! `evaluate` the value of an expression, `goal` the test of the goal, and `repeat` makes so many steps in turn. What makes many
-//! steps at once stands on `make`, whose touches tell what a step changes and what was there before, and on `restore`.
+//! `evaluate` the value of an expression, and `goal` the test of the goal. What makes many steps at once stands on `make`, whose
+//! touches tell what a step changes and what was there before, and on `restore`.
 #![tactic(auto)]
 
 mod application;
@@ -11,7 +11,6 @@ mod failure;
 mod instance;
 pub mod laws;
 mod reading;
-mod repeating;
 mod state;
 mod stepping;
 mod terms;
@@ -20,10 +19,9 @@ mod touches;
 pub use application::restore;
 pub use conditions::{goal, test_conditions};
 pub use evaluation::evaluate;
-pub use failure::{RepeatFail, StepFail};
+pub use failure::StepFail;
 pub use instance::fitting_action;
 pub use reading::holds_atom;
-pub use repeating::repeat;
 pub use state::State;
 pub use stepping::{make, step};
 pub use touches::Touch;

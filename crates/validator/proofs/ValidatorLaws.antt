@@ -1,4 +1,4 @@
--- The validator's answers: a task and a plan's text allow one, and each status is that of some answers.
+-- The validator's answers: each status is that of some answers, and says what they say.
 use Rattle.std.proofs.Common.{◌≡◌, ◌⊎◌, inl, inr, ℕ, ◌<◌, List, [], ◌∷◌, Some, None, Ok, refl, sym, ◌∙◌, ap, ap₂, subst, arith}
 use Rattle.pddl_form.specs.declared.fault.Fault.{Fault}
 use Rattle.pddl_form.specs.Judged.{good, noted}
@@ -11,7 +11,6 @@ use Rattle.plan_text.specs.PlanText.{names_of, plan_judged, IsFirstFault}
 use Rattle.plan_form.specs.Printed.{flat_length}
 use Rattle.plan_judge.specs.declared.outcome.Outcome.{Outcome}
 use Rattle.plan_judge.specs.declared.outcome.Outcome.TheVariants as outcome
-use Rattle.plan_judge.specs.Outcome.{outcome_of}
 use Rattle.plan_judge.specs.Written.{IsValid}
 use Rattle.plan_step.specs.Laws.{IsRefutal}
 use Rattle.plan_judge.specs.Laws.{FailPassesBits, PassesBits, MeansFail, Means}
@@ -29,42 +28,6 @@ use Rattle.validator.specs.declared.answer.Answer.TheVariants as answer
 use Rattle.validator.specs.Words.{files_of}
 use Rattle.validator.specs.Lines.{lines, failure_status, outcome_status, status}
 use Rattle.validator.specs.Validator.{IsJudged, Judges, Allows, validator, IsAccepted, IsRejected, IsUndecided, SaysOutcome, RefusesPlan, IsFaultless, IsValRun}
-
--- ---- a task and a plan's text allow one answer
-
-some_is : (f g : Fault) → Some f ≡ Some g → f ≡ g
-some_is f g is = cc is
-
-good_is : (p q : List Part) → good p ≡ good q → p ≡ q
-good_is p q is = cc is
-
-module _ (task : TaskParts) (text : List ℕ) where
-  one_fault : (k p l q : ℕ) → IsFirstFault (names_of task) text k p → IsFirstFault (names_of task) text l q → (k ≡ l) × (p ≡ q)
-  one_fault k p l q is also =
-      let same = some_is is.fault also.fault (sym is.first ∙ also.first) in
-      (is.kind_is ∙ ap (λ (f : Fault). f.kind) same ∙ sym also.kind_is, is.place_is ∙ ap (λ (f : Fault). f.place) same ∙ sym also.place_is)
-
-  fault_not_judged : (k p : ℕ) (o : Outcome) (s : ℕ) → IsFirstFault (names_of task) text k p → IsJudged task text o s → ⊥
-  fault_not_judged k p o s is judged =
-      let none : noted None (plan_judged (names_of task) text) ≡ None = ap (noted None) judged.spelled ∙ noted-good None judged.plan in
-      cc (none, is.first)
-
-  one_judged : (o q : Outcome) (s t : ℕ) → IsJudged task text o s → IsJudged task text q t → (o ≡ q) × (s ≡ t)
-  one_judged o q s t is also =
-      let same = good_is is.plan also.plan (sym is.spelled ∙ also.spelled) in
-      (is.outcome_is ∙ ap (outcome_of task) same ∙ sym also.outcome_is, is.steps_is ∙ ap flat_length same ∙ sym also.steps_is)
-
-  one_judgement : (a b : Answer) → Judges task text a → Judges task text b → a ≡ b
-  one_judgement (answer.PlanFault k p) (answer.PlanFault l q) is also =
-      let same = one_fault k p l q is also in ap₂ (λ (x y : ℕ). answer.PlanFault x y) same.0 same.1
-  one_judgement (answer.PlanFault k p) (answer.Judged o s) is also = absurd (fault_not_judged k p o s is also)
-  one_judgement (answer.Judged o s) (answer.PlanFault k p) is also = absurd (fault_not_judged k p o s also is)
-  one_judgement (answer.Judged o s) (answer.Judged q t) is also =
-      let same = one_judged o q s t is also in ap₂ (λ (x : Outcome) (y : ℕ). answer.Judged x y) same.0 same.1
-
-pub one_answer : (task : TaskParts) (more : List (List ℕ)) (a b : Answer) → Allows task more a → Allows task more b → a ≡ b
-one_answer task [] a b is also = absurd is
-one_answer task (text ∷ more) a b is also = one_judgement task text a b is also
 
 -- ---- statuses
 
@@ -157,7 +120,6 @@ module _ (outside : Outside) where
       plan = allowed.plan;
       spelled = allowed.spelled;
       verdict = o;
-      is_verdict = allowed.outcome_is;
       comes = allowed.comes;
       is_so = so task allowed.plan o is allowed.means;
       printed = subst (λ (n : ℕ). Prints outside.output (lines (answer.Judged o n))) allowed.steps_is printed;

@@ -7,7 +7,6 @@ use Rattle.plan_text.specs.PlanText.{names_of, plan_judged, IsFirstFault}
 use Rattle.plan_form.specs.Printed.{flat_length}
 use Rattle.plan_judge.specs.declared.outcome.Outcome.{Outcome}
 use Rattle.plan_judge.specs.declared.outcome.Outcome.TheVariants as outcome
-use Rattle.plan_judge.specs.Outcome.{outcome_of}
 use Rattle.plan_judge.specs.Course.{ComesTo}
 use Rattle.plan_judge.specs.Written.{IsValid}
 use Rattle.plan_judge.specs.Laws as outcomes
@@ -26,7 +25,6 @@ use Rattle.validator.specs.Lines.{lines, status}
 pub record IsJudged (task : TaskParts) (text : List ℕ) (o : Outcome) (steps : ℕ) : Type 0 where
   pub plan : List Part
   pub spelled : plan_judged (names_of task) text ≡ good plan
-  pub outcome_is : o ≡ outcome_of task plan
   -- how far the plan comes: the run in front of its first failure, or of all its parts
   pub comes : ComesTo task plan o
   -- what the outcome says of the plan written out, in unlimited fractions: it is valid, or it isn't
@@ -77,7 +75,6 @@ module _ (outside : Outside) where
     pub plan : List Part
     pub spelled : plan_judged (names_of task) text ≡ good plan
     pub verdict : Outcome
-    pub is_verdict : verdict ≡ outcome_of task plan
     pub comes : ComesTo task plan verdict
     pub is_so : IsSo task plan verdict
     pub printed : Prints outside.output (lines (answer.Judged verdict (flat_length plan)))

@@ -1,5 +1,5 @@
-use Rattle.plan_judge.proofs.Judgements.{refuted_is}
+use Rattle.plan_judge.proofs.Meanings.{refuted-is}
 use Rattle.plan_judge.proofs.laws.refuted_part_leaves_no_run.Goals as goal
 
 pub returns : goal.returns
-returns c = refuted_is
+returns c = refuted-is
