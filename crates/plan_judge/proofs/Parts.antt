@@ -1,5 +1,5 @@
 -- The parts of a plan, one by one: those in front have a run.
-use Rattle.std.proofs.Common.{◌≡◌, ℕ, suc, ◌+◌, ◌<◌, ◌≤◌, Bool, true, false, List, [], ◌∷◌, ◌++◌, length, drop, get_or, replicate, Result, Ok, Err, refl, sym, ap, subst, ◌∙◌, append_assoc, drop-cons, add-one, arith}
+use Rattle.std.proofs.Common.{◌≡◌, ℕ, suc, ◌+◌, ◌<◌, ◌≤◌, Bool, List, [], ◌∷◌, ◌++◌, length, drop, get_or, replicate, Result, refl, sym, ap, subst, ◌∙◌, append_assoc, drop-cons, add-one, arith}
 use Rattle.std.proofs.lemmas.List.{drop_all, append-nil, length_push}
 use Rattle.frac128.specs.declared.operations.Wide.{Wide}
 use Rattle.pddl_task.specs.declared.instance.Instance.{Instance}
@@ -8,7 +8,6 @@ use Rattle.plan_step.specs.declared.failure.StepFail.TheVariants as fail
 use Rattle.plan_step.specs.State.{PlanState, initial}
 use Rattle.plan_step.specs.Conditions.{goal_met}
 use Rattle.plan_step.specs.Meaning.{Run, ended}
-use Rattle.plan_repeat.specs.declared.failure.RepeatFail.{RepeatFail}
 use Rattle.plan_repeat.specs.Repeat.{Breaks}
 use Rattle.plan_form.specs.declared.plan.Part.{Part}
 use Rattle.plan_form.specs.Printed.{written_out}

@@ -1,5 +1,5 @@
 -- How far a plan comes, by runs of instances: to the first part that breaks off, or to the goal's test after its last part.
-use Rattle.std.specs.Prelude.{◌≡◌, ℕ, ◌+◌, Bool, true, false, List, ◌∷◌, ◌++◌, length, Result, Ok, Err}
+use Rattle.std.specs.Prelude.{◌≡◌, ◌+◌, Bool, true, false, List, ◌∷◌, ◌++◌, length, Result, Ok, Err}
 use Rattle.frac128.specs.declared.operations.Wide.{Wide}
 use Rattle.pddl_task.specs.declared.parts.TaskParts.{TaskParts}
 use Rattle.plan_step.specs.declared.failure.StepFail.TheVariants as fail

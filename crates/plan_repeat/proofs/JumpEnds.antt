@@ -15,7 +15,7 @@ use Rattle.plan_repeat.specs.declared.failure.RepeatFail.{RepeatFail}
 use Rattle.plan_repeat.specs.Rolling.{rolled}
 use Rattle.plan_repeat.specs.Halving.{at_last}
 use Rattle.plan_repeat.specs.Jump.{hold_after, makes, tests, evaluates, ends}
-use Rattle.plan_repeat.specs.inside.Jumping.{IsBase, IsRollFail, TestsAt, FindsFirst, EndsAt, LastFails, Jumps}
+use Rattle.plan_repeat.specs.inside.Jumping.{IsBase, TestsAt, FindsFirst, EndsAt, LastFails, Jumps}
 use Rattle.plan_repeat.proofs.Jumps.{base-again, holds-again}
 
 never_wide : (e : StepFail) (w : Wide) → ◌≡◌ {A = Result (Unit {0}) StepFail} (Err e) (Err (fail.Wide w)) → (IsWide e → ⊥) → ⊥

@@ -1,5 +1,5 @@
 -- Repetitions: runs of one instance made longer by a step, where one breaks off, and what a jump comes to.
-use Rattle.std.proofs.Common.{◌≡◌, ℕ, zero, suc, ◌+◌, ◌-◌, ◌<◌, true, List, [], ◌∷◌, replicate, inl, inr, ⊎_elim, Result, Ok, Err, refl, sym, ap, subst, ◌∙◌, arith}
+use Rattle.std.proofs.Common.{◌≡◌, ℕ, zero, suc, ◌+◌, ◌-◌, ◌<◌, List, [], replicate, inl, inr, ⊎_elim, Result, Ok, Err, refl, sym, ap, subst, ◌∙◌, arith}
 use Rattle.frac128.specs.declared.operations.Wide.{Wide}
 use Rattle.pddl_task.specs.Linear.{IsLinear}
 use Rattle.rational.specs.Fraction.{Fraction}
@@ -15,7 +15,7 @@ use Rattle.plan_step.specs.State.{PlanState}
 use Rattle.plan_step.specs.Step.{step_from, made_by}
 use Rattle.plan_step.specs.Fitting.{fitting}
 use Rattle.plan_step.specs.Making.{MakesFail}
-use Rattle.plan_step.specs.Meaning.{IsInstanceOf, HasStep, Run, ended, stepped}
+use Rattle.plan_step.specs.Meaning.{HasStep, Run, ended, stepped}
 use Rattle.plan_step.proofs.Fitting.{step_fits, step_fails}
 use Rattle.plan_step.proofs.Reasons.{failure_reason}
 use Rattle.plan_step.proofs.RunLaws.{split, stays}

@@ -14,6 +14,7 @@ pub fn answer(
     match call {
         "step" => steps::answer_step(alloc, task),
         "repeat" => steps::answer_repeat(alloc, task, word(texts, 2)),
+        "each" => steps::answer_each(alloc, task),
         "instance" => steps::answer_instance(alloc, task, word(texts, 2), word(texts, 3)),
         _ => answer_plan(alloc, call, task, text(texts, 2)),
     }

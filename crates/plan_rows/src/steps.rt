@@ -77,15 +77,45 @@ pub fn answer_step(alloc: Global, task: &Task) -> Result<String, AllocError> {
     outcome(fail, before, shown(alloc, &state)?)
 }
 
+/// So many repetitions from the initial state.
+fn repeated(alloc: Global, task: &Task, times: u128) -> Result<String, AllocError> {
+    let mut state = State::initial(alloc, task)?;
+    let before = shown(alloc, &state)?;
+    let fail = repeat_fail(alloc, task, &mut state, times)?;
+    outcome(fail, before, shown(alloc, &state)?)
+}
+
 /// As many steps from the initial state.
 pub fn answer_repeat(alloc: Global, task: &Task, times: &str) -> Result<String, AllocError> {
     let Ok(times) = times.parse::<u128>() else {
         return String::from_str(alloc, "no number");
     };
+    repeated(alloc, task, times)
+}
+
+/// So many single steps from the initial state, up to the first that fails.
+fn stepped(alloc: Global, task: &Task, times: u128) -> Result<String, AllocError> {
     let mut state = State::initial(alloc, task)?;
-    let before = shown(alloc, &state)?;
-    let fail = repeat_fail(alloc, task, &mut state, times)?;
-    outcome(fail, before, shown(alloc, &state)?)
+    for done in 0..times {
+        if let Err(fail) = step(alloc, task, &mut state, &first_action(alloc)) {
+            return show_repeat_fail(alloc, &RepeatFail { at: done + 1, fail });
+        }
+    }
+    shown(alloc, &state)
+}
+
+/// Repetitions from the initial state, compared with as many single steps for each count up to 50: the first count at which
+/// they differ, or that they don't, with what the last comes to.
+pub fn answer_each(alloc: Global, task: &Task) -> Result<String, AllocError> {
+    let mut last = String::new(alloc);
+    for times in 0..51 {
+        last = repeated(alloc, task, times)?;
+        let in_turn = stepped(alloc, task, times)?;
+        if last.as_str() != in_turn.as_str() {
+            return format!(in alloc; "{times}: {last}, and in turn {in_turn}");
+        }
+    }
+    format!(in alloc; "the same; {last}")
 }
 
 fn first_step(alloc: Global, task: &Task, by: &Instance) -> Result<(), StepFail> {

@@ -1,14 +1,12 @@
 -- The validator's answers: each status is that of some answers, and says what they say.
-use Rattle.std.proofs.Common.{◌≡◌, ◌⊎◌, inl, inr, ℕ, ◌<◌, List, [], ◌∷◌, Some, None, Ok, refl, sym, ◌∙◌, ap, ap₂, subst, arith}
-use Rattle.pddl_form.specs.declared.fault.Fault.{Fault}
+use Rattle.std.proofs.Common.{◌≡◌, ◌⊎◌, inl, inr, ℕ, ◌<◌, List, [], ◌∷◌, None, Ok, refl, ◌∙◌, ap, subst, arith}
 use Rattle.pddl_form.specs.Judged.{good, noted}
 use Rattle.pddl_form.proofs.Judging.{noted-good}
 use Rattle.pddl_task.specs.declared.parts.TaskParts.{TaskParts}
 use Rattle.plan_step.specs.declared.failure.StepFail.{StepFail}
 use Rattle.plan_step.specs.declared.failure.StepFail.TheVariants as fail
 use Rattle.plan_form.specs.declared.plan.Part.{Part}
-use Rattle.plan_text.specs.PlanText.{names_of, plan_judged, IsFirstFault}
-use Rattle.plan_form.specs.Printed.{flat_length}
+use Rattle.plan_text.specs.PlanText.{names_of, plan_judged}
 use Rattle.plan_judge.specs.declared.outcome.Outcome.{Outcome}
 use Rattle.plan_judge.specs.declared.outcome.Outcome.TheVariants as outcome
 use Rattle.plan_judge.specs.Written.{IsValid}
@@ -27,7 +25,7 @@ use Rattle.validator.specs.declared.answer.Answer.{Answer}
 use Rattle.validator.specs.declared.answer.Answer.TheVariants as answer
 use Rattle.validator.specs.Words.{files_of}
 use Rattle.validator.specs.Lines.{lines, failure_status, outcome_status, status}
-use Rattle.validator.specs.Validator.{IsJudged, Judges, Allows, validator, IsAccepted, IsRejected, IsUndecided, SaysOutcome, RefusesPlan, IsFaultless, IsValRun}
+use Rattle.validator.specs.Validator.{Judges, Allows, validator, IsAccepted, IsRejected, IsUndecided, SaysOutcome, RefusesPlan, IsFaultless, IsValRun}
 
 -- ---- statuses
 

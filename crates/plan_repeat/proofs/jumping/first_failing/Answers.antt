@@ -1,4 +1,4 @@
-use Rattle.std.proofs.Common.{map, inl, inr, Ok, Err, ◌≡◌, ℕ, ◌+◌, ◌-◌, ◌/◌, ◌<◌, refl, sym, ap, ◌∙◌, arith}
+use Rattle.std.proofs.Common.{map, inl, inr, Err, ◌≡◌, ℕ, ◌+◌, ◌-◌, ◌/◌, ◌<◌, refl, sym, ap, ◌∙◌, arith}
 use Rattle.plan_step.specs.declared.failure.StepFail.TheVariants as fail
 use Rattle.plan_step.specs.Held.{state_of}
 use Rattle.plan_step.specs.Touches.{target_of, changes_of}

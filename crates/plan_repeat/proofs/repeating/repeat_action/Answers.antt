@@ -1,5 +1,4 @@
 use Rattle.std.proofs.Common.{ℕ, List, map, sym, ap, subst, ◌∙◌}
-use Rattle.plan_step.specs.State.{PlanState}
 use Rattle.plan_step.specs.Held.{state_of}
 use Rattle.plan_step.specs.Touches.{Target, target_of, target_in, DiffersIn}
 use Rattle.plan_step.proofs.Fitting.{same_state, targets_fit}
