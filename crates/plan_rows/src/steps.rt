@@ -104,17 +104,32 @@ fn stepped(alloc: Global, task: &Task, times: u128) -> Result<String, AllocError
     shown(alloc, &state)
 }
 
+/// Whether so many repetitions come to the same as single steps; what they come to, and what the steps do, where they don't.
+fn compared(alloc: Global, task: &Task, times: u128) -> Result<Option<String>, AllocError> {
+    let at_once = repeated(alloc, task, times)?;
+    let in_turn = stepped(alloc, task, times)?;
+    if at_once.as_str() == in_turn.as_str() {
+        return Ok(None);
+    }
+    Ok(Some(format!(in alloc; "{times}: {at_once}, and in turn {in_turn}")?))
+}
+
+fn first_difference(alloc: Global, task: &Task, most: u128) -> Result<Option<String>, AllocError> {
+    for times in 0..most {
+        if let Some(difference) = compared(alloc, task, times)? {
+            return Ok(Some(difference));
+        }
+    }
+    Ok(None)
+}
+
 /// Repetitions from the initial state, compared with as many single steps for each count up to 50: the first count at which
 /// they differ, or that they don't, with what the last comes to.
 pub fn answer_each(alloc: Global, task: &Task) -> Result<String, AllocError> {
-    let mut last = String::new(alloc);
-    for times in 0..51 {
-        last = repeated(alloc, task, times)?;
-        let in_turn = stepped(alloc, task, times)?;
-        if last.as_str() != in_turn.as_str() {
-            return format!(in alloc; "{times}: {last}, and in turn {in_turn}");
-        }
+    if let Some(difference) = first_difference(alloc, task, 51)? {
+        return Ok(difference);
     }
+    let last = repeated(alloc, task, 50)?;
     format!(in alloc; "the same; {last}")
 }
 
