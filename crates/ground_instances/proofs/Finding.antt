@@ -1,8 +1,8 @@
 -- Steps of the search, by the lists that are still to come.
-use Rattle.std.proofs.Common.{◌≡◌, ℕ, zero, suc, ◌+◌, ◌-◌, ◌<◌, ◌≤◌, Bool, true, false, cond, List, [], ◌∷◌, ◌++◌, length, take, drop, get_or, Option, Some, None, if◌then◌else◌, refl, sym, ap, subst, ◌∙◌, append_assoc, arith}
+use Rattle.std.proofs.Common.{◌≡◌, ℕ, zero, suc, ◌+◌, ◌-◌, ◌<◌, ◌≤◌, Bool, true, false, cond, List, [], ◌∷◌, ◌++◌, length, if◌then◌else◌, refl, sym, ap, ◌∙◌, arith}
 use Rattle.std.specs.List.{flat_map}
 use Rattle.ground_instances.specs.ArgumentLists.{count_from}
-use Rattle.ground_instances.specs.inside.Search.{lists_from, lists_after, NoneOpen, IsCompleted, IsFollowed}
+use Rattle.ground_instances.specs.inside.Search.{lists_from, lists_after, NoneOpen}
 
 chosen_false : {A : Type 0} (b : Bool) (x y : A) → b ≡ false → (if b then x else y) ≡ y
 chosen_false true x y e = cc

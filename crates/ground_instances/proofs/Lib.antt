@@ -3,8 +3,11 @@ pub mod Answering
 pub mod Candidates
 pub mod Ending
 pub mod Finding
+pub mod Indexing
+pub mod Least
 pub mod Listing
 pub mod Literals
 pub mod Opening
+pub mod Standing
 pub mod Steps
 pub mod Whole

@@ -1,5 +1,5 @@
 -- A bound literal over a static predicate is met by its truth at the start.
-use Rattle.std.proofs.Common.{◌≡◌, ℕ, Bool, true, false, not, ◌||◌, List, length, refl, sym, ap, ◌∙◌}
+use Rattle.std.proofs.Common.{◌≡◌, ℕ, Bool, true, false, not, ◌||◌, List, length, sym, ap, ◌∙◌}
 use Rattle.std.specs.List.{list_all}
 use Rattle.pddl_task.specs.declared.condition.Cond.TheVariants as cond_
 use Rattle.pddl_task.specs.declared.expression.Term.{Term}

@@ -1,9 +1,8 @@
 -- What the search finds, by the program's list of arguments.
-use Rattle.std.proofs.Common.{◌≡◌, ℕ, zero, suc, ◌+◌, ◌-◌, ◌<◌, ◌≤◌, Bool, true, false, cond, List, [], ◌∷◌, ◌++◌, length, take, drop, get_or, set, if◌then◌else◌, refl, sym, ap, subst, ◌∙◌, append_assoc, add-one, arith}
-use Rattle.std.proofs.lemmas.List.{take_more, take_more_set, length-append}
-use Rattle.std.proofs.Math.Seq.{drop-cons}
+use Rattle.std.proofs.Common.{◌≡◌, ℕ, zero, suc, ◌+◌, ◌-◌, ◌<◌, ◌≤◌, Bool, true, false, List, [], ◌∷◌, ◌++◌, length, take, drop, get_or, set, refl, sym, ap, subst, ◌∙◌, add-one, arith}
+use Rattle.std.proofs.lemmas.List.{take_more, take_more_set}
 use Rattle.ground_instances.specs.inside.Search.{lists_from, lists_after, NoneOpen, IsNextObject, IsCompleted, IsFollowed}
-use Rattle.ground_instances.proofs.Finding.{one_left, from_next, none_left, skipped, passed_shut, passed_empty, after_is, after_none, found_with}
+use Rattle.ground_instances.proofs.Finding.{one_left, none_left, skipped, passed_shut, passed_empty, after_is, after_none, found_with}
 
 -- ---- lists divided at a place
 record Divided (xs : List ℕ) (at : ℕ) (front : List ℕ) (o : ℕ) : Type 0 where

@@ -1,17 +1,19 @@
 //! The next object that can follow some arguments, by a static literal that binds it.
-ghost use Rattle.std.specs.Prelude.{◌≡◌, ◌++◌, ◌+◌, ◌<◌, true, length, take, drop, IfOk, IfSome, MatchOption};
+ghost use Rattle.std.specs.Prelude.{◌≡◌, ◌++◌, ◌+◌, ◌<◌, true, false, length, take, drop, IfOk, IfSome, MatchOption};
 ghost use Rattle.std.specs.List.{list_all};
+ghost use Rattle.pddl_task.specs.Task.{is_changing_pred};
+ghost use Rattle.pddl_task.specs.declared.condition.Cond.TheVariants as leaf;
 ghost use Rattle.pddl_task.specs.Numbers.{counts_of, is_condition};
 ghost use Rattle.plan_step.specs.Meaning.{objects_of};
-ghost use Rattle.ground_instances.specs.Index.{IsIndexOf};
+ghost use Rattle.ground_instances.specs.Index.{IsRising, IsIndexOf};
 ghost use Rattle.ground_instances.specs.inside.Open.{met_so_far};
 ghost use Rattle.ground_instances.specs.inside.Open as opened;
-ghost use Rattle.ground_instances.specs.inside.Places.{IsBinding, IsLeast, NoneAmong, IsChoice};
+ghost use Rattle.ground_instances.specs.inside.Places.{IsBinding, IsFirstFrom, AllBelow, IsLeast, NoneAmong, IsChoice};
 
 use crate::index::FactIndex;
 use crate::meeting::{are_bound, objects};
 use pddl_task::{Cond, Task, Term};
-use sqlite_items::Items;
+use sqlite_items::{Items, at};
 use std::alloc::{AllocError, Global};
 
 /// What a condition says about the next argument.
@@ -60,17 +62,51 @@ fn objects_around(
     Ok(around)
 }
 
-/// The least object from one on and below another.
+/// The least object from one on, of objects that rise.
+fn first_from(objects: &[u32], low: u64) -> Option<u32>
+    requires { IsRising objects.now }
+    ensures { MatchOption result (AllBelow objects.now low) (IsFirstFrom objects.now low) }
+{
+    if low > u32::MAX as u64 {
+        return None;
+    }
+    match objects.binary_search(&(low as u32)) {
+        Ok(_) => Some(low as u32),
+        Err(place) => at(objects, place).copied(),
+    }
+}
+
+/// The least object from one on and below another, of objects that rise.
 fn least(objects: &[u32], low: u64, high: u32) -> Option<u32>
+    requires { IsRising objects.now }
     ensures { MatchOption result (NoneAmong objects.now low high) (IsLeast objects.now low high) }
 {
-    let mut least = high;
-    for object in objects {
-        if *object as u64 >= low && *object < least {
-            least = *object;
-        }
+    let object = first_from(objects, low)?;
+    if object < high { Some(object) } else { None }
+}
+
+/// The next object, from one on, by a static literal that has the next argument at the place.
+fn choose_at(
+    alloc: Global,
+    task: &Task,
+    facts: &FactIndex,
+    args: &[u32],
+    pred: u32,
+    terms: &[Term],
+    place: usize,
+    low: u64,
+) -> Result<Choice, AllocError>
+    requires index { IsIndexOf facts.now task.now.facts }
+    requires fixed { is_changing_pred task.now.actions pred ≡ false }
+    requires binding { IsBinding (length args.now) terms.now place }
+    ensures { IfOk result (λ choice. IsChoice (length task.now.objects) (λ more. met_so_far task.now more (leaf.Lit true pred terms.now)) args.now low choice) }
+{
+    let around = objects_around(alloc, args, terms, place)?;
+    let objects = facts.objects(place, pred, around.as_slice());
+    match least(objects, low, task.objects()) {
+        Some(object) => Ok(Choice::Next(object)),
+        None => Ok(Choice::Nothing),
     }
-    if least < high { Some(least) } else { None }
 }
 
 /// The next object, from one on, by one condition.
@@ -101,18 +137,14 @@ pub(crate) fn choose(
     let Some(place) = binding_place(args.len(), terms.as_slice()) else {
         return Ok(Choice::Unbound);
     };
-    let Some(found) = facts.places.get(place) else {
-        return Ok(Choice::Unbound);
-    };
-    let around = objects_around(alloc, args, terms.as_slice(), place)?;
-    let Some(number) = found.keys.number(*pred, around.as_slice()) else {
-        return Ok(Choice::Nothing);
-    };
-    let Some(list) = found.lists.get(number as usize) else {
-        return Ok(Choice::Nothing);
-    };
-    match least(list.as_slice(), low, task.objects()) {
-        Some(object) => Ok(Choice::Next(object)),
-        None => Ok(Choice::Nothing),
-    }
+    choose_at(
+        alloc,
+        task,
+        facts,
+        args,
+        *pred,
+        terms.as_slice(),
+        place,
+        low,
+    )
 }

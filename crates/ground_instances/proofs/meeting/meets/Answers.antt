@@ -1,7 +1,6 @@
 -- The literal is bound and static, and its truth is that of the start.
-use Rattle.std.proofs.Common.{◌≡◌, ◌∙◌, sym, ap, true, false}
+use Rattle.std.proofs.Common.{◌∙◌, sym, ap}
 use Rattle.std.specs.List.{list_all}
-use Rattle.pddl_task.specs.Task.{is_changing_pred}
 use Rattle.plan_step.specs.Held.{state_of}
 use Rattle.plan_step.specs.Meaning.{objects_of, signed}
 use Rattle.ground_instances.specs.inside.Open.{is_bound, met_so_far}

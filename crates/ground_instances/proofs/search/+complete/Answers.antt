@@ -1,7 +1,7 @@
 -- Each turn tries one object, and goes on above it where nothing is found with it.
-use Rattle.std.proofs.Common.{◌≡◌, ◌<◌, ◌+◌, ℕ, Bool, ◌∙◌, sym, ap, true, false, subst, length, take, set, List, Option, Some, None, arith}
+use Rattle.std.proofs.Common.{◌<◌, ◌+◌, ℕ, Bool, ◌∙◌, sym, subst, length, take, set, List, Option, arith}
 use Rattle.ground_instances.specs.inside.Open.{is_open}
-use Rattle.ground_instances.specs.inside.Search.{IsCandidate, IsCompleted, IsNextObject, NoneOpen}
+use Rattle.ground_instances.specs.inside.Search.{IsCandidate, IsCompleted, IsNextObject}
 use Rattle.ground_instances.proofs.Steps.{Turning, completed_here, turning_end, turning_shut, turning_empty, turning_found, turned_length}
 use Rattle.ground_instances.proofs.search.+complete.Goals as goal
 use Rattle.ground_instances.proofs.search.+complete.Goals.{else-branch-via-then-branch+in_ok-complete+else-branch-2, else-branch-via-else-branch}

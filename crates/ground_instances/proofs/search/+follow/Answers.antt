@@ -1,5 +1,5 @@
 -- The next list keeps one argument more, or else has a greater one there.
-use Rattle.std.proofs.Common.{◌≡◌, ◌<◌, ◌+◌, Bool, ◌∙◌, sym, ap, true, false, subst, length, get_or, arith}
+use Rattle.std.proofs.Common.{◌<◌, ◌+◌, Bool, subst, length, get_or, arith}
 use Rattle.ground_instances.specs.inside.Open.{is_open}
 use Rattle.ground_instances.specs.inside.Search.{IsCompleted, IsFollowed}
 use Rattle.ground_instances.proofs.Answering.{along}

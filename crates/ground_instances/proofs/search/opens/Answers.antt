@@ -1,5 +1,5 @@
 -- The arguments fit and the conditions are met.
-use Rattle.std.proofs.Common.{◌≡◌, ◌∙◌, Bool, sym, ap, true, false}
+use Rattle.std.proofs.Common.{◌≡◌, ◌∙◌, Bool, sym, ap}
 use Rattle.std.specs.List.{list_all}
 use Rattle.plan_step.specs.Meaning.{all_fit}
 use Rattle.ground_instances.specs.inside.Open.{is_open, met_so_far}

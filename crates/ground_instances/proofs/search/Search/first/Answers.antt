@@ -1,5 +1,5 @@
 -- No list begins with nothing, or the first completion of nothing is the first list.
-use Rattle.std.proofs.Common.{◌≡◌, Bool, ◌∙◌, sym, length}
+use Rattle.std.proofs.Common.{Bool, ◌∙◌, sym, length}
 use Rattle.ground_instances.specs.ArgumentLists.{IsFirst}
 use Rattle.ground_instances.specs.inside.Open.{is_open}
 use Rattle.ground_instances.specs.inside.Search.{IsCompleted}
