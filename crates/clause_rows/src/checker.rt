@@ -1,25 +1,28 @@
-//! A plain judge of logs: it tests each step with the clauses so far, and knows nothing of the core. A list of truths, one for
-//! each Boolean, is all its state in a step.
+//! A plain judge of logs: it tests each step with the clauses and the bounds so far, and knows nothing of the core. A list of
+//! truths, one for each Boolean, is all its state in a step.
 ghost use Rattle.std.specs.Prelude.{◌≡◌};
 
-use formula::{Formula, Lit};
+use crate::readings::{Bound, bounds_of, exclude, hold_at, is_between};
+use formula::{Formula, Lit, Point};
+use frac128::Frac;
 use std::alloc::{AllocError, Global};
 use theory_law::{LogFail, LogSink, LogStep};
 
-/// The clauses so far, and what was wrong with the steps. It fails in place of taking step `fails_at`, counted from 0.
+/// The clauses and the Booleans so far, each with its bound if it is one, and what was wrong with the steps. It fails in place
+/// of taking step `fails_at`, counted from 0.
 #[derive(Drop)]
 pub struct Checker {
     alloc: Global,
     clauses: Vec<Vec<Lit>>,
-    booleans: usize,
+    bounds: Vec<Option<Bound>>,
     pub steps: u64,
     pub lemmas: u64,
     pub splits: u64,
     pub fails_at: u64,
     pub faults: u64,
-    /// Steps that don't follow by units.
+    /// Clauses that don't follow by units or from their bounds, and splits that don't make the next Boolean.
     pub unsound: u64,
-    /// Clauses that contain an earlier one.
+    /// Clauses that contain an earlier one, and splits whose point isn't one, or lies at a whole number.
     pub needless: u64,
 }
 
@@ -32,7 +35,7 @@ impl Checker {
         Ok(Checker {
             alloc,
             clauses,
-            booleans: formula.booleans() as usize,
+            bounds: bounds_of(alloc, formula)?,
             steps: 0,
             lemmas: 0,
             splits: 0,
@@ -53,14 +56,43 @@ impl Checker {
         false
     }
 
-    /// Whether the truths make a literal of each clause true.
-    pub fn is_met(&self, truths: &[bool]) -> bool {
+    /// Whether the truths make a literal of each clause true, and the bounds hold at the values.
+    pub fn is_met(&self, point: &Point) -> bool {
+        let truths = point.truth.as_slice();
         for clause in self.clauses.as_slice() {
             if !has_true(truths, clause.as_slice()) {
                 return false;
             }
         }
-        true
+        hold_at(self.bounds.as_slice(), truths, point.values.as_slice())
+    }
+
+    /// Whether two of the clause's literals can't both be false.
+    fn is_lemma(&self, clause: &[Lit]) -> bool {
+        for upper in clause {
+            for lower in clause {
+                if exclude(self.bounds.as_slice(), *upper, *lower) {
+                    return true;
+                }
+            }
+        }
+        false
+    }
+
+    /// Takes a split: whether it makes the next Boolean, for a whole number, and whether it is due at its point.
+    fn split(&mut self, boolean: u64, var: u64, k: &Frac, point: &Point) -> Result<(), AllocError>
+        ensures { self.new.faults ≡ self.old.faults }
+    {
+        self.splits = self.splits.saturating_add(1);
+        if boolean != self.bounds.len() as u64 || !k.is_whole() {
+            self.unsound = self.unsound.saturating_add(1);
+        }
+        if !self.is_met(point) || !is_between(point.values.as_slice(), var, k) {
+            self.needless = self.needless.saturating_add(1);
+        }
+        let most = *k;
+        self.bounds.push(Some(Bound { var, most }))?;
+        Ok(())
     }
 
     /// How many clauses the clause contains.
@@ -85,7 +117,7 @@ impl Checker {
 
     /// Whether with the clause's literals false each hint but the last makes one literal true, and the last is then false.
     fn follows(&self, clause: &[Lit], hints: &[u64]) -> Result<bool, AllocError> {
-        let mut truths = vec![in self.alloc; None; self.booleans]?;
+        let mut truths = vec![in self.alloc; None; self.bounds.len()]?;
         for lit in clause {
             set(truths.as_mut_slice(), lit.boolean, !lit.pos);
         }
@@ -192,6 +224,9 @@ impl<W> LogSink<W> for Checker {
         match s {
             LogStep::Lemma { clause, why: _why } => {
                 self.lemmas = self.lemmas.saturating_add(1);
+                if !self.is_lemma(clause.lits()) {
+                    self.unsound = self.unsound.saturating_add(1);
+                }
                 self.add(clause.lits())?;
             }
             LogStep::Learn { clause, hints } => {
@@ -201,13 +236,12 @@ impl<W> LogSink<W> for Checker {
                 self.add(clause.lits())?;
             }
             LogStep::Split {
-                boolean: _boolean,
-                var: _var,
-                k: _k,
-                point: _point,
+                boolean,
+                var,
+                k,
+                point,
             } => {
-                self.splits = self.splits.saturating_add(1);
-                self.booleans = self.booleans.saturating_add(1);
+                self.split(*boolean, *var, k, point)?;
             }
         }
         Ok(())

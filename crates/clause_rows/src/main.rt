@@ -1,10 +1,13 @@
-//! Formulas of clauses as rows of data (`row_files`), solved by the clause core over the theory without atoms: for each row, this
-//! program prints what the core answers, and whether the log or the point is wrong by a plain checker. Begin with `answers`.
+//! Formulas of clauses as rows of data (`row_files`), solved by the clause core over the theory without atoms, over one that
+//! refuses, and over bounds of counts: for each row, this program prints what the core answers, and whether the log or the
+//! point is wrong by a plain checker. Begin with `answers`.
 #![tactic(auto)]
 
 mod answers;
+mod bounds;
 mod checker;
 mod reading;
+mod readings;
 mod refusing;
 mod starting;
 

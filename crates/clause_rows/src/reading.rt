@@ -52,16 +52,22 @@ fn read_clause(alloc: Global, booleans: u64, text: &str) -> Result<Option<Clause
     Ok(Some(Clause::new(lits)))
 }
 
-/// The formula with so many truth variables and these clauses, where the text has one.
-pub fn read_formula(
-    alloc: Global,
-    booleans: u64,
-    text: &str,
-) -> Result<Option<Formula>, AllocError> {
+/// The formula with so many truth variables and without clauses.
+pub fn truths(alloc: Global, booleans: u64) -> Result<Formula, AllocError> {
     let mut formula = Formula::new(alloc);
     for _b in 0..booleans {
         formula.add_truth()?;
     }
+    Ok(formula)
+}
+
+/// The formula with these clauses behind its own, where the text has some.
+pub fn read_clauses(
+    alloc: Global,
+    formula: Formula,
+    text: &str,
+) -> Result<Option<Formula>, AllocError> {
+    let mut formula = formula;
     for part in text.split(';') {
         let Some(clause) = read_clause(alloc, formula.booleans(), part)? else {
             return Ok(None);

@@ -1,5 +1,5 @@
 -- A trail to which clauses added what they force.
-use Rattle.std.proofs.Common.{◌≡◌, ℕ, ◌<◌, ◌+◌, List, [], ◌∷◌, ◌++◌, length, Some, refl, sym, ap, subst, ◌∙◌, append_assoc, append-nil, Ok, Err, Result}
+use Rattle.std.proofs.Common.{◌≡◌, inl, inr, ℕ, ◌<◌, ◌+◌, List, [], ◌∷◌, ◌++◌, length, Some, refl, sym, ap, subst, ◌∙◌, append_assoc, append-nil, Ok, Err, Result}
 use Rattle.std.specs.List.{slice_get, All}
 use Rattle.std.specs.Result.{OnOk, OnErr}
 use Rattle.std.proofs.lemmas.Option.{get_or_from_slice_get}
@@ -7,9 +7,12 @@ use Rattle.std.proofs.lemmas.List.Elements.{All-contains}
 use Rattle.formula.specs.declared.atom.Lit.{Lit}
 use Rattle.clause_trail.specs.declared.trail.Entry.{Entry}
 use Rattle.clause_trail.specs.Decisions.{IsWithin}
-use Rattle.clause_trail.specs.Pushing.{IsForced, IsPushed, Pushes}
+use Rattle.clause_trail.specs.Pushing.{IsForced, IsPushed, Pushes, AssertsClause}
 use Rattle.clause_trail.proofs.Gets.{get-within}
 use Rattle.clause_trail.specs.Standing.{Forces, IsFree}
+use Rattle.clause_trail.specs.Scanning.{ScanHolds, IsSatisfied, IsFalseAmong, HasTwoFree}
+use Rattle.clause_trail.specs.declared.scanning.Scanned.{Scanned}
+use Rattle.clause_trail.specs.declared.scanning.Scanned.TheVariants.{Satisfied, Falsified, Unit as UnitOf, Open}
 
 pub pushed_none : {clauses : List (List Lit)} {n : ℕ} (entries : List Entry) → IsPushed clauses n entries entries
 pushed_none entries = record { added = []; is = sym (append-nil entries); pushes = tt }
@@ -42,3 +45,16 @@ forced_next clauses n entries k l w c at f free = record {
   unassigned = free;
   low = All-contains (λ (m : Lit). m.boolean < n) c l (All-at clauses k c (IsWithin n) w at) f.within;
 }
+
+-- a unit clause made its literal true
+pub asserts_unit : {E : Type 0} (r : Result (Unit {0}) E) (clauses : List (List Lit)) (k : ℕ) (c : List Lit) (l : Lit) (before after : List Entry) → slice_get clauses k ≡ Some c → Forces before (length before) c l → IsFree before l.boolean
+    → OnOk r (after ≡ before ++ record { lit = l; reason = Some k } ∷ []) → OnOk r (AssertsClause clauses k before after)
+asserts_unit (Ok done) clauses k c l before after at forces free is = (c, at, inl (record { lit = l; forces = forces; unassigned = free; is = is }))
+asserts_unit (Err x) clauses k c l before after at forces free is = tt
+
+-- any other clause leaves the trail as it was
+pub asserts_nothing : (clauses : List (List Lit)) (k : ℕ) (c : List Lit) (s : Scanned) (entries : List Entry) → slice_get clauses k ≡ Some c → ScanHolds entries c s → ((l : Lit) → s ≡ UnitOf l → ⊥) → AssertsClause clauses k entries entries
+asserts_nothing clauses k c Satisfied entries at h none = (c, at, inr (record { same = refl; says = inr (inl h) }))
+asserts_nothing clauses k c Falsified entries at h none = (c, at, inr (record { same = refl; says = inl h }))
+asserts_nothing clauses k c (UnitOf l) entries at h none = absurd (none l refl)
+asserts_nothing clauses k c Open entries at h none = (c, at, inr (record { same = refl; says = inr (inr h) }))

@@ -1,5 +1,5 @@
 -- What clauses say under a trail.
-use Rattle.std.specs.Prelude.{◌≡◌, ◌≢◌, ◌⊎◌, ℕ, Bool, true, false, List, length, Some, slice_get, Option, None}
+use Rattle.std.specs.Prelude.{◌≡◌, ◌≢◌, ◌⊎◌, ◌<◌, ℕ, Bool, true, false, List, length, Some, slice_get, Option, None}
 use Rattle.std.specs.List.{Contains, All}
 use Rattle.formula.specs.declared.atom.Lit.{Lit}
 use Rattle.formula.specs.Reading.{opposite}
@@ -45,3 +45,13 @@ abbrev pub NextHolds : List Entry → List (List Lit) → Next → Type 0
 NextHolds entries clauses (Conflict k) = (c : List Lit) × (slice_get clauses k ≡ Some c) × IsFalseAmong entries c
 NextHolds entries clauses (NextUnit k l) = (c : List Lit) × (slice_get clauses k ≡ Some c) × Forces entries (length entries) c l × IsFree entries l.boolean
 NextHolds entries clauses Done = All (λ c. IsSatisfied entries c ⊎ HasTwoFree entries c) clauses
+
+-- each clause before the place has a true literal, or two that are unassigned
+abbrev pub AreQuietBefore : List Entry → List (List Lit) → ℕ → Type 0
+AreQuietBefore entries clauses k = (i : ℕ) (c : List Lit) → i < k → slice_get clauses i ≡ Some c → IsSatisfied entries c ⊎ HasTwoFree entries c
+
+-- the clause that is named is the first that says something
+abbrev pub IsFirstOpen : List Entry → List (List Lit) → Next → Type 0
+IsFirstOpen entries clauses (Conflict k) = AreQuietBefore entries clauses k
+IsFirstOpen entries clauses (NextUnit k l) = AreQuietBefore entries clauses k
+IsFirstOpen entries clauses Done = Unit {0}

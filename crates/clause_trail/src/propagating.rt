@@ -1,9 +1,9 @@
 //! Propagation over a trail.
-ghost use Rattle.std.specs.Prelude.{◌≡◌, ◌⊎◌, length, IfOk, MatchOption, ◌<◌, true, false, Some, None};
+ghost use Rattle.std.specs.Prelude.{◌≡◌, ◌⊎◌, length, IfOk, OnOk, OnErr, MatchOption, ◌<◌, true, false, Some, None};
 ghost use Rattle.std.specs.List.{All};
 ghost use Rattle.clause_trail.specs.Scanning.{IsConflict, IsSatisfied, HasTwoFree};
 ghost use Rattle.clause_trail.specs.Decisions.{IsWithin};
-ghost use Rattle.clause_trail.specs.Pushing.{IsPushed};
+ghost use Rattle.clause_trail.specs.Pushing.{IsPushed, AssertsClause};
 
 use crate::scanning::{Next, Scanned, first_open, lits_at, scan};
 use crate::trail::{Entry, Trail};
@@ -33,6 +33,8 @@ pub fn units(trail: &mut Trail, clauses: &[Clause]) -> Result<Option<u64>, Alloc
 pub fn assert_clause(trail: &mut Trail, clauses: &[Clause], number: usize) -> Result<(), AllocError>
     requires number { number < length clauses.now }
     requires within { All (IsWithin trail.old.booleans) clauses.now }
+    ensures ok { OnOk result (AssertsClause clauses.now number trail.old.entries trail.new.entries) }
+    ensures err { OnErr result (trail.new.entries ≡ trail.old.entries) }
     ensures booleans { trail.new.booleans ≡ trail.old.booleans }
     ensures pushed { IsPushed clauses.now trail.old.booleans trail.old.entries trail.new.entries }
 {

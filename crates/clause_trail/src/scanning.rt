@@ -1,7 +1,7 @@
 //! What clauses say under a trail.
 ghost use Rattle.std.specs.Prelude.{◌≡◌, ◌≢◌, ◌<◌, true, false, length, slice_get, Some};
 ghost use Rattle.formula.specs.declared.atom.Lit.{Lit};
-ghost use Rattle.clause_trail.specs.Scanning.{ScanHolds, NextHolds};
+ghost use Rattle.clause_trail.specs.Scanning.{ScanHolds, NextHolds, IsFirstOpen};
 ghost use Rattle.clause_trail.specs.inside.Values.{ValueHolds};
 
 use crate::trail::Trail;
@@ -60,7 +60,8 @@ pub fn scan(trail: &Trail, clause: &[Lit]) -> Scanned
 
 /// The first clause that is false, or unit.
 pub fn first_open(trail: &Trail, clauses: &[Clause]) -> Next
-    ensures { NextHolds trail.now.entries clauses.now result }
+    ensures next { NextHolds trail.now.entries clauses.now result }
+    ensures first { IsFirstOpen trail.now.entries clauses.now result }
 {
     for (k, clause) in clauses.iter().enumerate() {
         match scan(trail, clause.lits()) {

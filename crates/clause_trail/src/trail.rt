@@ -101,6 +101,8 @@ impl Trail {
     pub fn add_boolean(&mut self) -> Result<(), AllocError>
         ensures entries { self.new.entries ≡ self.old.entries }
         ensures booleans { OnOk result (self.new.booleans ≡ self.old.booleans + 1) }
+        ensures free { OnOk result (self.new.free ≡ self.old.free + 1) }
+        ensures err { OnErr result (self.new ≡ self.old) }
     {
         let _ = &self.entries;
         self.place.push(None)?;

@@ -3,7 +3,7 @@ use Rattle.std.proofs.lemmas.Bool.{cases_eq}
 use Rattle.std.proofs.lemmas.List.{get_or_read}
 use Rattle.formula.specs.declared.atom.Lit.{Lit}
 use Rattle.clause_trail.specs.Scanning.{IsSatisfied, HasTwoFree}
-use Rattle.clause_trail.proofs.Scans.{scan_rest}
+use Rattle.clause_trail.proofs.Scans.{scan_rest, quiet_before}
 use Rattle.clause_trail.proofs.scanning.first_open.Goals as goal
 
 pub loop-k-preserved : goal.loop-k-preserved
@@ -15,5 +15,11 @@ loop-k-preserved c = λ i d lt. elim (cases_eq i c.loop-k.k) [
   | inr other ↦ c.loop-k.invariant i d (omega arith)
 ]
 
-pub returns : goal.returns
-returns c = λ k d lt. c.loop-k.invariant k d (omega arith)
+pub returns-clause-next : goal.returns-clause-next
+returns-clause-next c = λ k d lt. c.loop-k.invariant k d (omega arith)
+
+pub returns-in-Falsified-clause-first : goal.returns-in-Falsified-clause-first
+returns-in-Falsified-clause-first c = quiet_before c.args.trail.now.entries c.args.clauses.now c.loop-k.k c.loop-k.invariant
+
+pub returns-in-Unit-clause-first : goal.returns-in-Unit-clause-first
+returns-in-Unit-clause-first c = quiet_before c.args.trail.now.entries c.args.clauses.now c.loop-k.k c.loop-k.invariant
