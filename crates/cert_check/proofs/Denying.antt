@@ -10,10 +10,10 @@ use Rattle.std.proofs.Math.Seq.{take-suc}
 use Rattle.formula.specs.declared.atom.Lit.{Lit}
 use Rattle.formula.specs.Contents.{is_clause, is_clause_from}
 use Rattle.formula.specs.Reading.{opposite}
-use Rattle.cert_check.specs.inside.Truth.{truth_where, truth_of, Tells, IsBare}
-use Rattle.cert_check.proofs.Tables.{get-set_other}
-use Rattle.cert_check.proofs.Literals.{in_cons, cons_in, cons_same}
-use Rattle.cert_check.proofs.Telling.{tells_none, tells_more}
+use Rattle.clause_units.specs.Truth.{truth_where, truth_of, Tells, IsBare}
+use Rattle.clause_units.proofs.Tables.{get-set_other}
+use Rattle.clause_units.proofs.Literals.{in_cons, cons_in, cons_same}
+use Rattle.clause_units.proofs.Telling.{tells_none, tells_more}
 
 -- the same literals in another order
 tells_same : (table : List (Option Bool)) (xs ys : List Lit) → ((m : Lit) → Contains xs m → Contains ys m) → ((m : Lit) → Contains ys m → Contains xs m) → Tells table xs → Tells table ys

@@ -1,10 +1,7 @@
-mod Tables
-mod Literals
-mod Scans
-mod Telling
-mod Hints
 mod Denying
 mod Parts
+mod Newness
+mod Indexing
 mod Nexts
 mod Readies
 mod Accepting

@@ -4,10 +4,10 @@ use Rattle.std.specs.List.{Contains}
 use Rattle.formula.specs.declared.atom.Lit.{Lit}
 use Rattle.formula.specs.Reading.{opposite}
 use Rattle.theory_law.specs.Licence.{IsPart}
-use Rattle.cert_check.specs.inside.Truth.{Tells}
-use Rattle.cert_check.specs.inside.Scanning.{IsBroken}
-use Rattle.cert_check.proofs.Literals.{opposite-opposite, in_cons, cons_in, cons_same}
-use Rattle.cert_check.proofs.Telling.{false_told, told_false}
+use Rattle.clause_units.specs.Truth.{Tells}
+use Rattle.clause_units.specs.Scanning.{IsBroken}
+use Rattle.clause_units.proofs.Literals.{opposite-opposite, in_cons, cons_in, cons_same}
+use Rattle.clause_units.proofs.Telling.{false_told, told_false}
 
 pub opposite_in : (c : List Lit) (l : Lit) → Contains c l → Contains (map opposite c) (opposite l)
 opposite_in [] l h = absurd (omega (arith, h.1))

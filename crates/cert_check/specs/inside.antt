@@ -1,3 +1,2 @@
-pub mod Truth
-pub mod Scanning
+pub mod Indexed
 pub mod Ready

@@ -5,10 +5,11 @@ ghost use Rattle.formula.specs.declared.atom.Lit.{Lit};
 ghost use Rattle.formula.specs.Contents.{is_clause};
 ghost use Rattle.formula.specs.Reading.{opposite};
 ghost use Rattle.theory_law.specs.Licence.{IsNew};
-ghost use Rattle.cert_check.specs.inside.Truth.{IsBare, Tells};
+ghost use Rattle.clause_units.specs.Truth.{IsBare, Tells};
+ghost use Rattle.cert_check.specs.inside.Indexed.{HasBroken, IsIndexed};
 
-use crate::truths::Truths;
-use crate::units::is_broken;
+use clause_index::ClauseIndex;
+use clause_units::{Truths, is_broken};
 use formula::{Clause, Lit};
 use std::alloc::AllocError;
 
@@ -25,12 +26,28 @@ pub(crate) fn deny(truths: &mut Truths, lits: &[Lit]) -> Result<(), AllocError>
     Ok(())
 }
 
-/// Whether the clause that is false contains none of these.
-pub(crate) fn is_new(truths: &Truths, clauses: &[Clause]) -> bool
-    ensures { (c : List Lit) → Tells truths.now (map opposite c) → IsTrue result ↔ IsNew clauses.now c }
+// Whether a clause with one of these numbers is false.
+fn has_broken(truths: &Truths, clauses: &[Clause], numbers: &[usize]) -> bool
+    ensures { IsTrue result ↔ HasBroken truths.now clauses.now numbers.now }
 {
-    for clause in clauses {
-        if is_broken(truths, clause.lits()) {
+    for number in numbers {
+        if *number < clauses.len() && is_broken(truths, clauses[*number].lits()) {
+            return true;
+        }
+    }
+    false
+}
+
+/// Whether the clause that is false contains none of these. Its parts stand under its literals.
+pub(crate) fn is_new(truths: &Truths, index: &ClauseIndex, clauses: &[Clause], lits: &[Lit]) -> bool
+    requires { IsIndexed clauses.now index.now }
+    ensures { Tells truths.now (map opposite lits.now) → IsTrue result ↔ IsNew clauses.now lits.now }
+{
+    if index.has_empty() {
+        return false;
+    }
+    for lit in lits {
+        if has_broken(truths, clauses, index.listed(*lit)) {
             return false;
         }
     }

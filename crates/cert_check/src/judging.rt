@@ -4,11 +4,14 @@ ghost use Rattle.std.specs.List.{Contains};
 ghost use Rattle.formula.specs.Contents.{is_clause, with_clause, with_boolean};
 ghost use Rattle.theory_law.specs.Log.{HasEmpty, after};
 ghost use Rattle.theory_law.specs.Splits.{CanSplit, at_most};
+ghost use Rattle.clause_index.specs.Places.{HasRoom};
 ghost use Rattle.cert_check.specs.Judged.{Judged};
+ghost use Rattle.cert_check.specs.inside.Indexed.{IsIndexed};
 
 use crate::bad::Bad;
 use crate::testing::{test_learn, test_lemma, test_split};
-use crate::truths::Truths;
+use clause_index::ClauseIndex;
+use clause_units::Truths;
 use formula::{Clause, Formula, Point};
 use frac128::Frac;
 use sqlite_items::Items;
@@ -21,7 +24,7 @@ use theory_law::{Coefs, LogStep};
 pub struct Judge {
     formula: Formula,
     truths: Truths,
-    empty: bool,
+    index: ClauseIndex,
     alloc: Global,
 }
 
@@ -33,7 +36,7 @@ impl Model for Judge {
 
     ghost view = { λ j. j.formula };
 
-    ghost invariant = { λ j. IsKept j.formula j.truths j.empty };
+    ghost invariant = { λ j. IsKept j.formula j.truths j.index };
 }
 
 impl Judge {
@@ -42,11 +45,11 @@ impl Judge {
         ensures { IfOk result (λ j. j ≡ formula) }
     {
         let truths = Truths::new(alloc, formula.booleans() as usize)?;
-        let empty = has_empty(formula.clauses());
+        let index = index_of(alloc, &formula)?;
         Ok(Judge {
             formula,
             truths,
-            empty,
+            index,
             alloc,
         })
     }
@@ -56,7 +59,7 @@ impl Judge {
         ensures { IsTrue result ↔ HasEmpty self.now }
     {
         let _ = &self.formula;
-        self.empty
+        self.index.has_empty()
     }
 
     /// Takes a step that passes the tests. Any other leaves the judge as it was.
@@ -82,7 +85,7 @@ impl Judge {
         ensures taken { OnOk result (self.new ≡ with_clause clause.now self.old) }
         ensures same { OnErr result (self.new ≡ self.old) }
     {
-        test_lemma(&self.formula, &mut self.truths, clause, why)?;
+        test_lemma(&self.formula, &mut self.truths, &self.index, clause, why)?;
         self.add_clause(clause)?;
         Ok(())
     }
@@ -92,7 +95,7 @@ impl Judge {
         ensures taken { OnOk result (self.new ≡ with_clause clause.now self.old) }
         ensures same { OnErr result (self.new ≡ self.old) }
     {
-        test_learn(&self.formula, &mut self.truths, clause, hints)?;
+        test_learn(&self.formula, &mut self.truths, &self.index, clause, hints)?;
         self.add_clause(clause)?;
         Ok(())
     }
@@ -114,9 +117,13 @@ impl Judge {
         ensures same { OnErr result (self.new ≡ self.old) }
     {
         let copy = clause.lits().to_vec(self.alloc)?;
-        let empty = clause.lits().is_empty();
+        let number = self.formula.clauses().len();
+        self.index.add(number, clause.lits())?;
         self.formula.add_clause(Clause::new(copy))?;
-        self.empty = self.empty || empty;
+        if clause.lits().is_empty() {
+            self.index.add_empty();
+            return Ok(());
+        }
         Ok(())
     }
 
@@ -127,9 +134,26 @@ impl Judge {
         ensures same { OnErr result (self.new ≡ self.old) }
     {
         self.truths.add_boolean()?;
+        self.index.add_boolean()?;
         self.formula.add_split(var, k)?;
         Ok(())
     }
+}
+
+// Where each clause of the formula is to be found.
+fn index_of(alloc: Global, formula: &Formula) -> Result<ClauseIndex, AllocError>
+    ensures room { IfOk result (λ i. HasRoom i (length formula.now.atoms)) }
+    ensures indexed { IfOk result (λ i. IsIndexed formula.now.clauses i) }
+{
+    let mut index = ClauseIndex::new(alloc, formula.booleans() as usize)?;
+    for (number, clause) in formula.clauses().iter().enumerate() {
+        index.add(number, clause.lits())?;
+    }
+    if has_empty(formula.clauses()) {
+        index.add_empty();
+        return Ok(index);
+    }
+    Ok(index)
 }
 
 fn has_empty(clauses: &[Clause]) -> bool

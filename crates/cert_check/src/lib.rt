@@ -1,5 +1,5 @@
 //! The judge of certificates: the steps of a log, tested one after another against the formula so far. It shares the definitions
-//! with the solver, and no code. `truths` has which Booleans are true, and `units` reads clauses and hints under them.
+//! with the solver, and no code. Begin with `judging`; `testing` has the tests of a step.
 #![tactic(auto)]
 
 mod bad;
@@ -7,8 +7,6 @@ mod denial;
 mod judging;
 mod known;
 mod testing;
-mod truths;
-mod units;
 
 pub use bad::Bad;
 pub use judging::Judge;

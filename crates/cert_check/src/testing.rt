@@ -6,12 +6,13 @@ ghost use Rattle.theory_law.specs.Units.{Follows};
 ghost use Rattle.theory_law.specs.Licence.{IsNew};
 ghost use Rattle.cert_check.specs.Judged.{IsKnown, Judged};
 ghost use Rattle.cert_check.specs.inside.Ready.{IsReady};
+ghost use Rattle.cert_check.specs.inside.Indexed.{IsIndexed};
 
 use crate::bad::Bad;
 use crate::denial::{deny, is_new};
 use crate::known::{are_numbers, are_of_atoms, can_split, is_between, is_clause, is_exact};
-use crate::truths::Truths;
-use crate::units::follows;
+use clause_index::ClauseIndex;
+use clause_units::{Truths, follows};
 use formula::{Clause, Formula, Point};
 use frac128::Frac;
 use lin::LinFail;
@@ -44,15 +45,17 @@ fn is_known_split(formula: &Formula, boolean: u64, var: u64, k: &Frac, point: &P
 fn contains_none(
     formula: &Formula,
     truths: &mut Truths,
+    index: &ClauseIndex,
     clause: &Clause,
 ) -> Result<bool, AllocError>
     requires ready { IsReady formula.now truths.old }
+    requires indexed { IsIndexed formula.now.clauses index.now }
     requires clause { is_clause (length formula.now.atoms) clause.now ≡ true }
     ensures ready { IsReady formula.now truths.new }
     ensures answer { IfOk result (λ r. IsTrue r ↔ IsNew formula.now.clauses clause.now) }
 {
     let denied = deny(truths, clause.lits());
-    let new = is_new(truths, formula.clauses());
+    let new = is_new(truths, index, formula.clauses(), clause.lits());
     truths.clear();
     denied?;
     Ok(new)
@@ -68,10 +71,12 @@ struct Learned {
 fn follow(
     formula: &Formula,
     truths: &mut Truths,
+    index: &ClauseIndex,
     clause: &Clause,
     hints: &[u64],
 ) -> Result<Learned, AllocError>
     requires ready { IsReady formula.now truths.old }
+    requires indexed { IsIndexed formula.now.clauses index.now }
     requires clause { is_clause (length formula.now.atoms) clause.now ≡ true }
     requires known { All (λ h. h < length formula.now.clauses) hints.now }
     ensures ready { IsReady formula.now truths.new }
@@ -79,7 +84,7 @@ fn follow(
     ensures new { IfOk result (λ r. IsTrue r.new ↔ IsNew formula.now.clauses clause.now) }
 {
     let denied = deny(truths, clause.lits());
-    let new = is_new(truths, formula.clauses());
+    let new = is_new(truths, index, formula.clauses(), clause.lits());
     let followed = follows(truths, formula.clauses(), hints);
     truths.clear();
     denied?;
@@ -93,10 +98,12 @@ fn follow(
 pub(crate) fn test_lemma(
     formula: &Formula,
     truths: &mut Truths,
+    index: &ClauseIndex,
     clause: &Clause,
     why: &Coefs,
 ) -> Result<(), Bad>
-    requires { IsReady formula.now truths.old }
+    requires ready { IsReady formula.now truths.old }
+    requires indexed { IsIndexed formula.now.clauses index.now }
     ensures answer { Judged formula.now (LogStep.Lemma clause.now why.now) result }
     ensures ready { IsReady formula.now truths.new }
 {
@@ -109,7 +116,7 @@ pub(crate) fn test_lemma(
         Err(LinFail::Wide(wide)) => return Err(Bad::Wide(wide)),
         Err(LinFail::Memory) => return Err(Bad::Memory),
     }
-    if !contains_none(formula, truths, clause)? {
+    if !contains_none(formula, truths, index, clause)? {
         return Err(Bad::Licence);
     }
     Ok(())
@@ -119,17 +126,19 @@ pub(crate) fn test_lemma(
 pub(crate) fn test_learn(
     formula: &Formula,
     truths: &mut Truths,
+    index: &ClauseIndex,
     clause: &Clause,
     hints: &Items<u64>,
 ) -> Result<(), Bad>
-    requires { IsReady formula.now truths.old }
+    requires ready { IsReady formula.now truths.old }
+    requires indexed { IsIndexed formula.now.clauses index.now }
     ensures answer { Judged formula.now (LogStep.Learn clause.now hints.now) result }
     ensures ready { IsReady formula.now truths.new }
 {
     if !is_known_learn(formula, clause, hints) {
         return Err(Bad::Known);
     }
-    let learned = follow(formula, truths, clause, hints.as_slice())?;
+    let learned = follow(formula, truths, index, clause, hints.as_slice())?;
     if !learned.follows {
         return Err(Bad::Hint);
     }

@@ -1,7 +1,7 @@
 use Rattle.std.proofs.Common.{◌≡◌, ◌+◌, false, length, List, Option, Bool, Some, set, sym, subst, ap, ◌∙◌, get_or}
 use Rattle.formula.specs.declared.atom.Lit.{Lit}
 use Rattle.formula.specs.Reading.{opposite}
-use Rattle.cert_check.proofs.Literals.{lit_same}
+use Rattle.clause_units.proofs.Literals.{lit_same}
 use Rattle.cert_check.proofs.Denying.{IsDenied, denied_more, denied_all}
 use Rattle.cert_check.proofs.denial.deny.Goals as goal
 

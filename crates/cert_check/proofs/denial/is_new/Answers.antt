@@ -1,35 +1,33 @@
-use Rattle.std.proofs.Common.{◌≡◌, inl, inr, List, refl, sym, subst, ap, ◌∙◌, arith, get_or}
-use Rattle.std.specs.List.{Contains}
-use Rattle.std.proofs.lemmas.Bool.{cases_eq}
-use Rattle.std.proofs.lemmas.List.Elements.{Contains-get_or}
+use Rattle.std.proofs.Common.{◌≡◌, ◌∙◌, ℕ, false, List, refl, sym, subst}
 use Rattle.formula.specs.declared.atom.Lit.{Lit}
-use Rattle.cert_check.specs.inside.Scanning.{IsBroken}
-use Rattle.cert_check.proofs.Scans.{any_default}
-use Rattle.cert_check.proofs.Parts.{broken_part, part_broken}
+use Rattle.clause_index.specs.Places.{listed}
+use Rattle.cert_check.specs.inside.Indexed.{HasBroken}
+use Rattle.cert_check.proofs.Newness.{empty_not_new, broken_not_new, none_more, none_is_new, none_below}
 use Rattle.cert_check.proofs.denial.is_new.Goals as goal
 
-pub returns-then-is_broken : goal.returns-then-is_broken
-returns-then-is_broken c = λ whole tells.
-    let clauses : List (List Lit) = c.args.clauses.now in
-    let here : get_or clauses c.loop-clause.clause-index c.clause-item.result ≡ c.lits.result.now = sym c.clause-item.is ∙ sym c.lits.ensures in
-    let has : Contains clauses c.lits.result.now = subst (λ (x : List Lit). Contains clauses x) here (Contains-get_or clauses c.loop-clause.clause-index c.clause-item.result c.loop-clause-test.true) in
-    (λ t. absurd (cc), λ new. absurd (new c.lits.result.now has (broken_part c.args.truths.now whole tells c.lits.result.now (c.is_broken.ensures.0 c.if-is_broken.true))))
+none : Lit
+none = record { boolean = 0; pos = false }
 
-pub loop-clause-preserved : goal.loop-clause-preserved
-loop-clause-preserved c = λ k d lt broken. elim (cases_eq k c.loop-clause.clause-index) as (λ _. ⊥) [
-  | inl same ↦
-      let clauses : List (List Lit) = c.args.clauses.now in
-      let here : get_or clauses k d ≡ c.lits.result.now = ap (λ i. get_or clauses i d) same ∙ any_default clauses c.loop-clause.clause-index d c.clause-item.result c.loop-clause-test.true ∙ sym c.clause-item.is ∙ sym c.lits.ensures in
-      let t = c.is_broken.ensures.1 (subst (λ (x : List Lit). IsBroken c.args.truths.now x) here broken) in
-      let f = c.if-is_broken.false in
-      cc
-  | inr other ↦ c.loop-clause.invariant k d (omega (arith, lt, other)) broken
-]
+pub returns-then-has_empty : goal.returns-then-has_empty
+returns-then-has_empty c = λ tells. (
+  λ t. absurd (cc),
+  λ new. absurd (empty_not_new c.args.truths.now c.args.clauses.now c.args.index.now c.args.lits.now c.requires (sym c.has_empty.ensures ∙ c.if-has_empty.true) new),
+)
+
+pub returns-then-has_broken : goal.returns-then-has_broken
+returns-then-has_broken c = λ tells. (
+  λ t. absurd (cc),
+  λ new. absurd (broken_not_new c.args.truths.now c.args.clauses.now c.args.index.now c.args.lits.now c.requires tells c.listed.result.now (c.has_broken.ensures.0 c.if-has_broken.true) new),
+)
+
+pub loop-lit-preserved : goal.loop-lit-preserved
+unfolding none
+loop-lit-preserved c = none_more c.args.truths.now c.args.clauses.now c.args.index.now c.args.lits.now c.loop-lit.lit-index none c.loop-lit.invariant c.loop-lit-test.true
+    (λ broken. let t = c.has_broken.ensures.1 (subst (λ (xs : List ℕ). HasBroken c.args.truths.now c.args.clauses.now xs) (sym c.listed.ensures) broken) in let f = c.if-has_broken.false in cc)
 
 pub returns : goal.returns
-returns c = λ whole tells. (
-  λ t d has part.
-      c.loop-clause.invariant has.0 d (omega (arith, has.1, c.loop-clause-test.false))
-      (subst (λ (x : List Lit). IsBroken c.args.truths.now x) (sym has.2) (part_broken c.args.truths.now whole tells d part)),
+returns c = λ tells. (
+  λ t. none_is_new c.args.truths.now c.args.clauses.now c.args.index.now c.args.lits.now c.requires tells (sym c.has_empty.ensures ∙ c.if-has_empty.false)
+      (none_below c.args.truths.now c.args.clauses.now c.args.index.now c.args.lits.now c.loop-lit.lit-index c.loop-lit.invariant c.loop-lit-test.false),
   λ new. refl,
 )

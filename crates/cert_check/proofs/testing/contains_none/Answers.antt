@@ -1,7 +1,8 @@
 use Rattle.std.proofs.Common.{◌≡◌, length, List, true, sym, subst, arith}
 use Rattle.formula.specs.declared.atom.Lit.{Lit}
 use Rattle.formula.specs.Contents.{is_clause}
-use Rattle.cert_check.proofs.Readies.{clause_fits, ready_cleared, new_is}
+use Rattle.cert_check.proofs.Readies.{clause_fits, ready_cleared}
+use Rattle.cert_check.proofs.Newness.{new_is}
 use Rattle.cert_check.proofs.testing.contains_none.Goals as goal
 
 pub deny-denied-requires-clause-clause : goal.deny-denied-requires-clause-clause
@@ -19,4 +20,5 @@ returns-clause-ready c =
 
 pub returns-clause-answer : goal.returns-clause-answer
 returns-clause-answer c =
-    new_is c.deny-denied.new.truths c.clauses.result.now c.args.formula.now.clauses c.lits.result.now c.args.clause.now c.is_new-new.result c.clauses.ensures.value c.lits.ensures c.is_new-new.ensures c.in_ok-denied.ensures.denied
+    new_is c.deny-denied.new.truths c.clauses.result.now c.args.formula.now.clauses c.lits.result.now c.lits-2.result.now c.args.clause.now c.is_new-new.result c.clauses.ensures.value c.lits.ensures c.lits-2.ensures c.is_new-new.ensures
+    c.in_ok-denied.ensures.denied

@@ -1,8 +1,9 @@
 use Rattle.std.proofs.Common.{◌≡◌, ◌≤◌, length, List, true, sym, subst, arith, All}
 use Rattle.formula.specs.declared.atom.Lit.{Lit}
 use Rattle.formula.specs.Contents.{is_clause}
-use Rattle.cert_check.specs.inside.Truth.{AreWithin}
-use Rattle.cert_check.proofs.Readies.{clause_fits, clauses_within, ready_cleared, new_is}
+use Rattle.clause_units.specs.Truth.{AreWithin}
+use Rattle.cert_check.proofs.Readies.{clause_fits, clauses_within, ready_cleared}
+use Rattle.cert_check.proofs.Newness.{new_is}
 use Rattle.cert_check.proofs.testing.follow.Goals as goal
 
 pub deny-denied-requires-clause-clause : goal.deny-denied-requires-clause-clause
@@ -30,4 +31,5 @@ returns-clause-ready c =
 
 pub returns-clause-new : goal.returns-clause-new
 returns-clause-new c =
-    new_is c.deny-denied.new.truths c.clauses.result.now c.args.formula.now.clauses c.lits.result.now c.args.clause.now c.is_new-new.result c.clauses.ensures.value c.lits.ensures c.is_new-new.ensures c.in_ok-denied.ensures.denied
+    new_is c.deny-denied.new.truths c.clauses.result.now c.args.formula.now.clauses c.lits.result.now c.lits-2.result.now c.args.clause.now c.is_new-new.result c.clauses.ensures.value c.lits.ensures c.lits-2.ensures c.is_new-new.ensures
+    c.in_ok-denied.ensures.denied

@@ -1,0 +1,5 @@
+pub mod Tables
+pub mod Literals
+pub mod Scans
+pub mod Telling
+pub mod Hints
