@@ -1,3 +1,4 @@
 pub mod Runs
 pub mod Parts
 pub mod Meanings
+pub mod OneOutcome

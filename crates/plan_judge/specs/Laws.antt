@@ -17,6 +17,13 @@ SaysInvalid (outcome.PartFails e) = IsRefutal e.fail.fail
 SaysInvalid outcome.GoalFails = Unit {0}
 SaysInvalid (outcome.GoalWide w) = ⊥
 
+-- the outcome says that the plan is valid, or that it isn't
+abbrev pub IsDecided : Outcome → Type 0
+IsDecided outcome.Valid = Unit {0}
+IsDecided (outcome.PartFails e) = IsRefutal e.fail.fail
+IsDecided outcome.GoalFails = Unit {0}
+IsDecided (outcome.GoalWide w) = ⊥
+
 -- ---- what an outcome says of the plan written out, in unlimited fractions
 
 abbrev pub MeansFail : TaskParts → List Part → StepFail → Type 0

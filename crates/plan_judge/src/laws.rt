@@ -9,7 +9,7 @@ ghost use Rattle.plan_step.specs.Meaning.{Run};
 ghost use Rattle.plan_step.specs.Laws.{IsRefutal};
 ghost use Rattle.plan_judge.specs.Course.{IsFirstFailure, IsTested, ComesTo};
 ghost use Rattle.plan_judge.specs.Written.{IsValid};
-ghost use Rattle.plan_judge.specs.Laws.{SaysInvalid};
+ghost use Rattle.plan_judge.specs.Laws.{SaysInvalid, IsDecided};
 ghost use Rattle.plan_judge.specs.declared.outcome.Outcome.{Outcome};
 ghost use Rattle.plan_judge.specs.declared.outcome.Outcome.TheVariants as outcome;
 ghost use Rattle.plan_judge.specs.declared.outcome.PartFail.{PartFail};
@@ -32,4 +32,9 @@ pub fn tested_state_is_the_end()
 /// A plan with a part that is refuted has no run at all.
 pub fn refuted_part_leaves_no_run()
     ensures { (task : TaskParts) (plan : List Part) (e : PartFail) (t : PlanState) → IsFirstFailure task plan e → IsRefutal e.fail.fail → Run task (initial task) (written_out plan) t → ⊥ }
+{}
+
+/// A plan comes to one outcome, operations that pass 128 bits aside.
+pub fn decided_outcome_is_one()
+    ensures { (task : TaskParts) (plan : List Part) (o q : Outcome) → ComesTo task plan o → ComesTo task plan q → IsDecided o → IsDecided q → o ≡ q }
 {}
