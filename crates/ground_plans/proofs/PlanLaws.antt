@@ -58,12 +58,12 @@ module _ (task : TaskParts) (line : IsLinear task) where
   instance_is n k e = ap instance_or_none e
 
   -- where a run of ground actions comes to, a run of their instances does
-  record ComesTo (s : PlanState) (plan : List Instance) (g : State) : Type 0 where
-    end : PlanState
-    run : Run task s plan end
-    seen : IsSeenAs task end g
+  pub record ComesTo (s : PlanState) (plan : List Instance) (g : State) : Type 0 where
+    pub end : PlanState
+    pub run : Run task s plan end
+    pub seen : IsSeenAs task end g
 
-  lifted : (word : List ℕ) (s : PlanState) (g h : State) → AllByRecursion (λ n. n < length (kept_instances task)) word → IsSeenAs task s g
+  pub lifted : (word : List ℕ) (s : PlanState) (g h : State) → AllByRecursion (λ n. n < length (kept_instances task)) word → IsSeenAs task s g
       → ground_task.Run g (map (action_at (task_from task)) word) h → ComesTo s (instances_at task word) h
   lifted [] s g h below seen run = record { end = s; run = ended (record { truth = λ p args. refl; value = λ f args. refl }); seen = subst (IsSeenAs task s) run seen }
   lifted (n ∷ word) s g h below seen run =
@@ -110,7 +110,7 @@ module _ (task : TaskParts) (line : IsLinear task) where
       }
 
   -- the same of a run whose numbers are known
-  lowered_at : (word : List ℕ) (s t : PlanState) (g : State) → AllByRecursion (λ n. n < length (kept_instances task)) word → IsSeenAs task s g
+  pub lowered_at : (word : List ℕ) (s t : PlanState) (g : State) → AllByRecursion (λ n. n < length (kept_instances task)) word → IsSeenAs task s g
       → Run task s (instances_at task word) t → (end : State) × ground_task.Run g (map (action_at (task_from task)) word) end × IsSeenAs task t end
   lowered_at [] s t g below seen run = (g, refl, subst (λ (u : PlanState). IsSeenAs task u g) (no_step task s t run) seen)
   lowered_at (n ∷ word) s t g below seen run =

@@ -1,4 +1,5 @@
--- Changes of functions by number, as the specification's acts on parts of which what they read is forgotten.
+-- Changes of functions by number: a function is given a part as its value, is increased or decreased by one, or is scaled by a
+-- fraction. Which functions the parts read isn't kept.
 use Rattle.std.specs.Prelude.{ℕ, Bool, true, false, pos, ◌==◌, List, [], ◌∷◌, ◌++◌, if◌then◌else◌}
 use Rattle.std.specs.List.{list_all}
 use Rattle.rational.specs.Fraction.{Fraction, whole, neg_ℚ, ◌+ℚ◌, inv_ℚ}

@@ -1,5 +1,5 @@
--- What is made of the leaves of an instance: as the specification's leaves and moves, but by numbers, and without what parts
--- read.
+-- What is made of the leaves of an instance. A literal has the number of its atom, a comparison its two sides as parts, and a
+-- static leaf is nothing; a change has the number of its atom or function. Which functions the parts read isn't kept.
 use Rattle.std.specs.Prelude.{ℕ, Bool, true, List, [], ◌∷◌, Option, Some, None, if◌then◌else◌}
 use Rattle.rational.specs.Fraction.{Fraction}
 use Rattle.pddl_task.specs.declared.condition.Cond.{Cond}

@@ -1,0 +1,3 @@
+pub mod Amounts
+pub mod Listed
+pub mod Rolling
