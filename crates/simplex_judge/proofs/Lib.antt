@@ -1,0 +1,9 @@
+pub mod ValueLists
+pub mod Beginnings
+pub mod Runs
+pub mod PointAnswers
+pub mod SumLaws
+pub mod CutLaws
+pub mod StuckLaws
+pub mod SettleLaws
+pub mod SolutionLaws

@@ -1,0 +1,9 @@
+pub mod Begun
+pub mod Ran
+pub mod Pointed
+pub mod Traced
+pub mod Summed
+pub mod Cuts
+pub mod Settled
+pub mod Checking
+pub mod Solved
