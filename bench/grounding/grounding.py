@@ -28,11 +28,11 @@ def drive(places, roads, vehicles):
 
 def pairs(left, right, one_more):
     """Each pair of two types is kept, and raises a function of the first; then perhaps one instance more."""
-    domain = """(:types left right) (:predicates (done ?x - left)) (:functions (level ?x - left))
+    domain = """(:types left right one) (:predicates (done ?x - left) (first ?x - left)) (:functions (level ?x - left))
         (:action raise :parameters (?x - left ?y - right) :precondition (<= (level ?x) 5) :effect (and (increase (level ?x) 1) (done ?x)))"""
-    domain += " (:action more :effect (done l0))" if one_more else ""
+    domain += " (:action more :parameters (?x - one ?y - left) :precondition (first ?y) :effect (done ?y))" if one_more else ""
     values = " ".join(f"(= (level l{i}) 0)" for i in range(left))
-    problem = f"(:objects {names('l', left)} - left {names('r', right)} - right) (:init {values}) (:goal (done l0))"
+    problem = f"(:objects {names('l', left)} - left {names('r', right)} - right o - one) (:init (first l0) {values}) (:goal (done l0))"
     return domain, problem, "many" if left * right + one_more > 1_000_000 else f"atoms {left}; funcs {left}; actions {left * right + one_more}"
 
 
