@@ -51,7 +51,7 @@ module _ (task : TaskParts) (by : Instance) where
 
   -- an operation that is told passes
   pub wide-passes : (s : PlanState) (times at : ℕ) (w : Wide) → Breaks task s by times at (fail.Wide w) → Passes w.op w.x w.y
-  wide-passes s times at w h = ⊎_elim (λ b. b.reason) (λ j. j.passes) h
+  wide-passes s times at w h = ⊎_elim (λ b. b.breaks.reason) (λ j. j.passes) h
 
   -- a repetition is refuted in one way
   one_err : (e f : StepFail) → ◌≡◌ {A = Result PlanState StepFail} (Err e) (Err f) → e ≡ f

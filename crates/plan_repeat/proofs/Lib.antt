@@ -9,3 +9,4 @@ pub mod JumpEnds
 pub mod Beginning
 pub mod RepeatLaws
 pub mod BreakLaws
+pub mod Zeros

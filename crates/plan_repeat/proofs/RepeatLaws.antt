@@ -1,5 +1,5 @@
 -- Repetitions: runs of one instance made longer by a step, where one breaks off, and what a jump comes to.
-use Rattle.std.proofs.Common.{◌≡◌, ℕ, zero, suc, ◌+◌, ◌-◌, ◌<◌, List, [], replicate, inl, inr, ⊎_elim, Result, Ok, Err, refl, sym, ap, subst, ◌∙◌, arith}
+use Rattle.std.proofs.Common.{◌≡◌, ℕ, zero, suc, ◌+◌, ◌-◌, ◌<◌, ◌⊎◌, List, [], replicate, inl, inr, ⊎_elim, Result, Ok, Err, refl, sym, ap, subst, ◌∙◌, arith}
 use Rattle.frac128.specs.declared.operations.Wide.{Wide}
 use Rattle.pddl_task.specs.Linear.{IsLinear}
 use Rattle.rational.specs.Fraction.{Fraction}
@@ -23,7 +23,8 @@ use Rattle.plan_step.proofs.StepLaws.{conditions_step}
 use Rattle.plan_repeat.specs.declared.failure.RepeatFail.{RepeatFail}
 use Rattle.plan_repeat.specs.Rolling.{IsRollable, rolled}
 use Rattle.plan_repeat.specs.Jump.{tested, JumpPasses}
-use Rattle.plan_repeat.specs.Repeat.{BreaksAt, Breaks}
+use Rattle.plan_step.specs.Laws.{IsWide}
+use Rattle.plan_repeat.specs.Repeat.{BreaksAt, IsInTurn, Breaks}
 use Rattle.plan_repeat.specs.inside.Jumping.{IsFirstFailing, JumpsTo, Jumps}
 use Rattle.plan_repeat.specs.inside.Repeating.{IsBegun, Rolls, RepeatsOn}
 use Rattle.plan_repeat.proofs.Beginning.{begun-step, begun-base, begun-rolls}
@@ -51,38 +52,48 @@ module _ (task : TaskParts) (by : Instance) where
       subst P e (one-more n s t u run h)
 
   -- ---- where a repetition breaks off
-  pub breaks : (s : PlanState) (times at : ℕ) (e : StepFail) → BreaksAt task s by times at e → Breaks task s by times at e
-  breaks s times at (fail.Wide w) h = inl h
-  breaks s times at fail.Arity h = h
-  breaks s times at fail.ArgType h = h
-  breaks s times at (fail.Condition i) h = h
-  breaks s times at (fail.NoValue i) h = h
-  breaks s times at (fail.Clash i) h = h
-  breaks s times at fail.Memory h = tt
+  pub refutal-breaks : (s : PlanState) (times at : ℕ) (e : StepFail) → (IsWide e → ⊥) → BreaksAt task s by times at e → Breaks task s by times at e
+  refutal-breaks s times at (fail.Wide w) other h = absurd (other tt)
+  refutal-breaks s times at fail.Arity other h = h
+  refutal-breaks s times at fail.ArgType other h = h
+  refutal-breaks s times at (fail.Condition i) other h = h
+  refutal-breaks s times at (fail.NoValue i) other h = h
+  refutal-breaks s times at (fail.Clash i) other h = h
+  refutal-breaks s times at fail.Memory other h = tt
 
   module _ (s reached : PlanState) (times made at : ℕ) (within : made < times) (number : at ≡ made + 1) (run : Run task s (replicate made by) reached) where
-    pub breaks-at : (e : StepFail) → step_from task reached by ≡ Err e → Breaks task s by times at e
-    breaks-at e fails = breaks s times at e (record { made = made; within = within; number = number; reached = reached; run = run; fails = fails; reason = failure_reason task reached by e fails })
+    abbrev break : (e : StepFail) → step_from task reached by ≡ Err e → BreaksAt task s by times at e
+    break e fails = record { made = made; within = within; number = number; reached = reached; run = run; fails = fails; reason = failure_reason task reached by e fails }
 
-    -- after a step that isn't made
-    pub breaks-off : (new : PlanState) (e : StepFail) → MakesFail (step_from task reached by) reached new e → Breaks task s by times at e
-    breaks-off new fail.Memory h = tt
-    breaks-off new fail.Arity h = breaks-at fail.Arity h.0
-    breaks-off new fail.ArgType h = breaks-at fail.ArgType h.0
-    breaks-off new (fail.Condition i) h = breaks-at (fail.Condition i) h.0
-    breaks-off new (fail.NoValue i) h = breaks-at (fail.NoValue i) h.0
-    breaks-off new (fail.Clash i) h = breaks-at (fail.Clash i) h.0
-    breaks-off new (fail.Wide w) h = breaks-at (fail.Wide w) h.0
+    module _ (in_turn : (made ≡ 0) ⊎ IsInTurn task s by) where
+      pub breaks-at : (e : StepFail) → step_from task reached by ≡ Err e → Breaks task s by times at e
+      breaks-at (fail.Wide w) fails = inl (record { breaks = break (fail.Wide w) fails; in_turn = in_turn })
+      breaks-at fail.Arity fails = break fail.Arity fails
+      breaks-at fail.ArgType fails = break fail.ArgType fails
+      breaks-at (fail.Condition i) fails = break (fail.Condition i) fails
+      breaks-at (fail.NoValue i) fails = break (fail.NoValue i) fails
+      breaks-at (fail.Clash i) fails = break (fail.Clash i) fails
+      breaks-at fail.Memory fails = tt
+
+      -- after a step that isn't made
+      pub breaks-off : (new : PlanState) (e : StepFail) → MakesFail (step_from task reached by) reached new e → Breaks task s by times at e
+      breaks-off new fail.Memory h = tt
+      breaks-off new fail.Arity h = breaks-at fail.Arity h.0
+      breaks-off new fail.ArgType h = breaks-at fail.ArgType h.0
+      breaks-off new (fail.Condition i) h = breaks-at (fail.Condition i) h.0
+      breaks-off new (fail.NoValue i) h = breaks-at (fail.NoValue i) h.0
+      breaks-off new (fail.Clash i) h = breaks-at (fail.Clash i) h.0
+      breaks-off new (fail.Wide w) h = breaks-at (fail.Wide w) h.0
 
   -- the first one
   module _ (s : PlanState) (times : ℕ) (some : 0 < times) where
     pub first-unfit : (e : StepFail) → fitting task by ≡ Err e → Breaks task s by times 1 e
-    first-unfit e unfit = breaks-at s s times 0 1 some (omega arith) (no-steps s) e (step_fails task s by e unfit)
+    first-unfit e unfit = breaks-at s s times 0 1 some (omega arith) (no-steps s) (inl refl) e (step_fails task s by e unfit)
 
     pub first-fails : (a : Action) (args : List ℕ) (new : PlanState) (e : StepFail) → fitting task by ≡ Ok a → args ≡ by.args → MakesFail (made_by s a args) s new e → Breaks task s by times 1 e
     first-fails a args new e fits same h =
         let P : Result PlanState StepFail → Type 0 = λ r. MakesFail r s new e in
-        breaks-off s s times 0 1 some (omega arith) (no-steps s) new e (subst P (ap (λ (xs : List ℕ). made_by s a xs) same ∙ sym (step_fits task s by a fits)) h)
+        breaks-off s s times 0 1 some (omega arith) (no-steps s) (inl refl) new e (subst P (ap (λ (xs : List ℕ). made_by s a xs) same ∙ sym (step_fits task s by a fits)) h)
 
   -- ---- what a jump comes to
   module _ (s first : PlanState) (h : HasStep task s by first) (linear : IsLinear task) (r : IsRollable task h.action by.args h.changes) (times : ℕ) (many : 1 < times) where
@@ -93,8 +104,17 @@ module _ (task : TaskParts) (by : Instance) where
     failing f k =
         let below : k.n < times - 1 = k.within in
         let number : f.at ≡ k.n + 2 = k.number in
-        breaks-at s (rolled h.changes s (suc k.n)) times (suc k.n) f.at (omega arith) (omega arith) (rolled-run task s first by h linear r k.n k.holds) f.fail
-        (conditions_step task (rolled h.changes s (suc k.n)) by h.action h.of_action f.fail (let P : ℕ → Type 0 = λ n. tested by.args h.action.conds h.changes s n ≡ Err f.fail in let e : k.n + 1 ≡ suc k.n = omega arith in subst P e k.fails))
+        let fails : step_from task (rolled h.changes s (suc k.n)) by ≡ Err f.fail =
+        conditions_step task (rolled h.changes s (suc k.n)) by h.action h.of_action f.fail (let P : ℕ → Type 0 = λ n. tested by.args h.action.conds h.changes s n ≡ Err f.fail in let e : k.n + 1 ≡ suc k.n = omega arith in subst P e k.fails) in
+        refutal-breaks s times f.at f.fail k.refuted (record {
+          made = suc k.n;
+          within = omega arith;
+          number = omega arith;
+          reached = rolled h.changes s (suc k.n);
+          run = rolled-run task s first by h linear r k.n k.holds;
+          fails = fails;
+          reason = failure_reason task (rolled h.changes s (suc k.n)) by f.fail fails;
+        })
 
     pub jump-repeats : (new : PlanState) (a : Result (Unit {0}) RepeatFail) → JumpsTo by.args h.action.conds h.changes s times new a → RepeatsOn task by times s new a
     jump-repeats new (Ok u) k =

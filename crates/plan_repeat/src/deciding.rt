@@ -1,8 +1,9 @@
 //! Whether an instance rolls, asked after its first step, and by how much its functions grow then. Begin with
 //! `growths_rolling`.
-ghost use Rattle.std.specs.Prelude.{IsTrue, IfOk, IfSome};
+ghost use Rattle.std.specs.Prelude.{◌≡◌, false, IsTrue, IfOk, MatchOption};
 ghost use Rattle.plan_step.specs.Held.{state_of};
-ghost use Rattle.plan_repeat.specs.inside.Repeating.{SomeGrows, Rolls};
+ghost use Rattle.plan_step.specs.Meaning.{is_zero_ℤ};
+ghost use Rattle.plan_repeat.specs.inside.Repeating.{SomeGrows, NoneGrows, IsApart, Rolls};
 
 use crate::growing::growths;
 use crate::rolling::leaves_roll;
@@ -11,12 +12,19 @@ use pddl_task::{Cond, Effect, Task};
 use plan_step::{State, Touch};
 use std::alloc::{AllocError, Global};
 
+fn is_zero(x: &Frac) -> bool
+    ensures { result ≡ is_zero_ℤ x.now.num }
+{
+    x.num() == 0
+}
+
 /// Whether some growth isn't 0.
 fn some_grows(growths: &[Frac]) -> bool
-    ensures { IsTrue result → SomeGrows growths.now }
+    ensures some { IsTrue result → SomeGrows growths.now }
+    ensures none { result ≡ false → NoneGrows growths.now }
 {
     for growth in growths {
-        if growth.num() != 0 {
+        if !is_zero(growth) {
             return true;
         }
     }
@@ -34,7 +42,7 @@ pub(crate) fn growths_rolling(
     effs: &[Effect],
     touches: &[Touch],
 ) -> Result<Option<Vec<Frac>>, AllocError>
-    ensures { IfOk result (λ o. IfSome o (λ v. Rolls task.now (state_of state.now) args.now conds.now effs.now touches.now v.items)) }
+    ensures { IfOk result (λ o. MatchOption o (IsApart task.now (state_of state.now) args.now conds.now effs.now touches.now) (λ v. Rolls task.now (state_of state.now) args.now conds.now effs.now touches.now v.items)) }
 {
     if !leaves_roll(task, state, args, conds, effs) {
         return Ok(None);

@@ -1,5 +1,6 @@
 //! Values so many steps on, where each step grows a function by the same amount.
-ghost use Rattle.std.specs.Prelude.{◌≡◌, ◌-◌, length, map, pos, Some, IfOk, IfSome};
+ghost use Rattle.std.specs.Prelude.{◌≡◌, ◌-◌, length, map, pos, Some, IfOk, IfErr, MatchOption};
+ghost use Rattle.frac128.specs.Operations.{Passes};
 ghost use Rattle.rational.specs.Fraction.{Fraction, whole, ◌-ℚ◌};
 ghost use Rattle.plan_step.specs.Held.{state_of};
 ghost use Rattle.plan_step.specs.Places.{HasFunction, KeepsPlaces, with_function};
@@ -18,7 +19,8 @@ fn zero() -> Frac
 
 /// What a value grew by; where there was none before or is none now, 0.
 fn difference(old: &Option<Frac>, new: &Option<Frac>) -> Result<Frac, Wide>
-    ensures { IfOk result (λ q. (x y : Fraction) → old.now ≡ Some x → new.now ≡ Some y → q ≡ y -ℚ x) }
+    ensures found { IfOk result (λ q. (x y : Fraction) → old.now ≡ Some x → new.now ≡ Some y → q ≡ y -ℚ x) }
+    ensures passes { IfErr result (λ w. (x : Fraction) × (y : Fraction) × (old.now ≡ Some x) × (new.now ≡ Some y) × Passes Op.Sub y x) }
 {
     let (Some(x), Some(y)) = (old, new) else {
         return Ok(zero());
@@ -27,7 +29,8 @@ fn difference(old: &Option<Frac>, new: &Option<Frac>) -> Result<Frac, Wide>
 }
 
 fn growth_of(state: &State, touch: &Touch) -> Result<Frac, Wide>
-    ensures { IfOk result (jump.IsGrowth (state_of state.now) touch.now) }
+    ensures found { IfOk result (jump.IsGrowth (state_of state.now) touch.now) }
+    ensures passes { IfErr result (λ w. jump.IsUnfoundAt (state_of state.now) touch.now) }
 {
     match touch {
         Touch::Atom { .. } => Ok(zero()),
@@ -46,7 +49,7 @@ pub(crate) fn growths(
     state: &State,
     touches: &[Touch],
 ) -> Result<Option<Vec<Frac>>, AllocError>
-    ensures { IfOk result (λ o. IfSome o (λ v. jump.AreGrowths (state_of state.now) touches.now v.items)) }
+    ensures { IfOk result (λ o. MatchOption o (jump.IsUnfound (state_of state.now) touches.now) (λ v. jump.AreGrowths (state_of state.now) touches.now v.items)) }
 {
     let mut growths = Vec::with_capacity(alloc, touches.len())?;
     for touch in touches {

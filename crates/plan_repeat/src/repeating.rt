@@ -8,7 +8,7 @@ ghost use Rattle.plan_step.specs.Meaning.{HasStep};
 ghost use Rattle.plan_step.specs.Places.{KeepsPlaces};
 ghost use Rattle.plan_step.specs.Touches.{EachTouch, HasPlace, DiffersIn, target_of};
 ghost use Rattle.plan_step.specs.Fitting.{fitting, targets_of};
-ghost use Rattle.plan_repeat.specs.Repeat.{Repeats};
+ghost use Rattle.plan_repeat.specs.Repeat.{IsInTurn, Repeats};
 ghost use Rattle.plan_repeat.specs.inside.Repeating.{IsBegun, RepeatsOn};
 
 use crate::deciding::growths_rolling;
@@ -27,7 +27,7 @@ fn repeat_on(
     times: u128,
 ) -> Result<(), RepeatFail>
     requires { 0 < times }
-    ensures repeats { (s : PlanState) → HasStep task.now s by.now (state_of state.old) → RepeatsOn task.now by.now times s (state_of state.new) result }
+    ensures repeats { (s : PlanState) → HasStep task.now s by.now (state_of state.old) → IsInTurn task.now s by.now → RepeatsOn task.now by.now times s (state_of state.new) result }
     ensures differs { DiffersIn (targets_of task.now by.now) (state_of state.old) (state_of state.new) }
     ensures keeps { KeepsPlaces state.old state.new }
 {

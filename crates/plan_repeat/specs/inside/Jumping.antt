@@ -4,6 +4,7 @@ use Rattle.std.specs.List.{list_any}
 use Rattle.std.specs.Option.{option_map}
 use Rattle.rational.specs.Fraction.{Fraction, whole, ◌+ℚ◌, ◌*ℚ◌, ◌-ℚ◌}
 use Rattle.frac128.specs.Operations.{Passes}
+use Rattle.frac128.specs.declared.operations.Op.TheVariants.{Sub}
 use Rattle.frac128.specs.declared.operations.Wide.{Wide}
 use Rattle.pddl_task.specs.declared.condition.Cond.{Cond}
 use Rattle.plan_step.specs.declared.touches.Touch.{Touch}
@@ -30,6 +31,18 @@ IsGrowth now (touch.Function op f args by old) q = (x y : Fraction) → old ≡ 
 pub record AreGrowths (now : PlanState) (touches : List Touch) (qs : List Fraction) : Type 0 where
   pub length_is : length qs ≡ length touches
   pub each : (i : ℕ) (t : Touch) → i < length touches → t ≡ slice_index_or touches i t → IsGrowth now t (slice_index_or qs i (whole (pos 0)))
+
+-- an operation passes by which it is found how much the function of a touch grew
+abbrev pub IsUnfoundAt : PlanState → Touch → Type 0
+IsUnfoundAt now (touch.Atom sign p args old) = ⊥
+IsUnfoundAt now (touch.Function op f args by old) = (x : Fraction) × (y : Fraction) × (old ≡ Some x) × (now.value f args ≡ Some y) × Passes Sub y x
+
+pub record IsUnfound (now : PlanState) (touches : List Touch) : Type 0 where
+  pub i : ℕ
+  pub t : Touch
+  pub within : i < length touches
+  pub is : t ≡ slice_index_or touches i t
+  pub unfound : IsUnfoundAt now t
 
 -- ---- values n steps on
 
@@ -139,6 +152,7 @@ pub record IsFirstFailing (args : List ℕ) (conds : List Cond) (changes : List 
   pub within : n < last
   pub holds : hold_after args conds changes s n ≡ true
   pub fails : tested args conds changes s (n + 1) ≡ Err f.fail
+  pub refuted : IsWide f.fail → ⊥
 
 abbrev pub FindsFirst : List ℕ → List Cond → List Touch → List Fraction → ℕ → StepFail → PlanState → RepeatFail → Type 0
 FindsFirst args conds touches qs last e old f =

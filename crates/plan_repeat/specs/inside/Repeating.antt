@@ -1,5 +1,5 @@
 -- What the repetitions after the first answer, and what is known when they begin.
-use Rattle.std.specs.Prelude.{◌≡◌, ◌≢◌, ℕ, ◌<◌, true, List, length, pos, replicate, slice_index_or, Result, Ok, Err}
+use Rattle.std.specs.Prelude.{◌≡◌, ◌≢◌, ℕ, ◌<◌, true, false, ◌&&◌, List, length, pos, replicate, slice_index_or, Result, Ok, Err}
 use Rattle.std.specs.List.{list_all}
 use Rattle.rational.specs.Fraction.{Fraction, whole}
 use Rattle.pddl_task.specs.Task.{is_changing_func}
@@ -16,7 +16,7 @@ use Rattle.plan_step.specs.Touches.{changes_of, EachTouch, IsKept, HasTarget}
 use Rattle.plan_repeat.specs.declared.failure.RepeatFail.{RepeatFail}
 use Rattle.plan_repeat.specs.Rolling.{is_even, literal_holds}
 use Rattle.plan_repeat.specs.Repeat.{Breaks}
-use Rattle.plan_repeat.specs.inside.Jumping.{AreGrowths}
+use Rattle.plan_repeat.specs.inside.Jumping.{AreGrowths, IsUnfound}
 
 -- the first step from a state is made, with these touches
 pub record IsBegun (task : TaskParts) (by : Instance) (action : Action) (touches : List Touch) (s now : PlanState) : Type 0 where
@@ -37,6 +37,16 @@ pub record Rolls (task : TaskParts) (now : PlanState) (args : List ℕ) (conds :
   pub literals : list_all (literal_holds now args) conds ≡ true
   pub growths : AreGrowths now touches qs
   pub some : SomeGrows qs
+
+-- no growth is other than 0
+abbrev pub NoneGrows : List Fraction → Type 0
+NoneGrows qs = (i : ℕ) → i < length qs → slice_index_or qs i (whole (pos 0)) ≡ whole (pos 0)
+
+-- after the first step: the instance doesn't roll, or it isn't found how much its functions grew
+pub data IsApart (task : TaskParts) (now : PlanState) (args : List ℕ) (conds : List Cond) (effs : List Effect) (touches : List Touch) : Type 0 where
+  uneven : (list_all (is_even (is_changing_func task.actions)) effs && list_all (literal_holds now args) conds) ≡ false → IsApart task now args conds effs touches
+  unfound : IsUnfound now touches → IsApart task now args conds effs touches
+  still : (qs : List Fraction) → list_all (is_even (is_changing_func task.actions)) effs ≡ true → AreGrowths now touches qs → NoneGrows qs → IsApart task now args conds effs touches
 
 -- a failure leaves the state as it is then
 abbrev pub RepeatsOn : TaskParts → Instance → ℕ → PlanState → PlanState → Result (Unit {0}) RepeatFail → Type 0

@@ -88,6 +88,7 @@ returns-clause-finds c =
       within = omega arith;
       holds = i.holds s b first;
       fails = ap (λ (n : ℕ). tested c.args.args.now c.args.conds.now (changes_of c.args.touches.now) s n) next ∙ i.fails s b last;
+      refuted = i.refuted;
     })
 
 pub returns-in-Err-clause-finds : goal.returns-in-Err-clause-finds

@@ -1,4 +1,4 @@
-use Rattle.std.proofs.Common.{ℕ, ◌≡◌, ◌≤◌, ◌+◌, replicate, refl, subst, arith}
+use Rattle.std.proofs.Common.{inr, ℕ, ◌≡◌, ◌≤◌, ◌+◌, replicate, refl, subst, arith}
 use Rattle.plan_step.specs.Held.{state_of}
 use Rattle.plan_step.specs.Meaning.{Run}
 use Rattle.plan_step.specs.Fitting.{targets_of}
@@ -18,8 +18,8 @@ loop-done-init c =
     }
 
 pub returns-in-Err-clause-repeats : goal.returns-in-Err-clause-repeats
-returns-in-Err-clause-repeats c = λ s h.
-    breaks-off c.args.task.now c.args.by.now s (state_of c.loop-done.state) c.args.times c.loop-done.done (c.loop-done.done + 1) c.loop-done-test.true refl (c.loop-done.invariant.run s h)
+returns-in-Err-clause-repeats c = λ s h turn.
+    breaks-off c.args.task.now c.args.by.now s (state_of c.loop-done.state) c.args.times c.loop-done.done (c.loop-done.done + 1) c.loop-done-test.true refl (c.loop-done.invariant.run s h) (inr turn)
     (state_of c.step.new.state) c.in-Err.fail c.in-Err.ensures.made
 
 pub returns-in-Err-clause-differs : goal.returns-in-Err-clause-differs
@@ -37,7 +37,7 @@ loop-done-preserved c =
     }
 
 pub returns-clause-repeats : goal.returns-clause-repeats
-returns-clause-repeats c = λ s h.
+returns-clause-repeats c = λ s h turn.
     let some = c.requires in
     let past = c.loop-done-test.false in
     let most : c.loop-done.done ≤ c.args.times = c.loop-done.auto.done-end (omega arith) in
