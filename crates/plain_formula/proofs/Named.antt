@@ -1,26 +1,32 @@
 -- The rows of a plain task name truth variables alone, so each Boolean of its formula is one.
-use Rattle.std.proofs.Common.{◌≡◌, ℕ, zero, suc, Bool, true, false, ◌&&◌, cond, List, [], ◌∷◌, ◌++◌, map, refl, sym, subst, Some, slice_get, slice_index_or}
+use Rattle.std.proofs.Common.{◌≡◌, ℕ, zero, suc, Bool, true, false, ◌&&◌, cond, List, [], ◌∷◌, ◌++◌, map, refl, sym, ap, subst, Some, slice_get, slice_index_or}
 use Rattle.std.specs.Prelude.{⊤}
 use Rattle.std.specs.List.{AllByRecursion, list_all}
 use Rattle.rational.specs.Linear.{Terms}
-use Rattle.lin.specs.Linear.{Linear}
+use Rattle.rational.specs.Fraction.{Fraction, whole, ◌*ℚ◌}
+use lib.IntN.{pos, negsuc}
+use Rattle.std.proofs.lemmas.Bool.{and_parts}
+use Rattle.lin.specs.Linear.{Linear, fixed, linear_of, times, scale, subst as substituted, subst_from}
+use Rattle.lin.specs.Negative.{negative}
+use Rattle.lin.specs.Made.{subst_ops}
+use Rattle.lin.specs.declared.comparison.Cmp.TheVariants.{Le, Lt, Eq}
 use Rattle.lin.specs.declared.comparison.Cmp.{Cmp}
 use Rattle.formula.specs.declared.atom.Atom.{Atom}
 use Rattle.task_core.specs.declared.action.GAction.{GAction}
 use Rattle.task_core.specs.State.{State}
 use Rattle.task_core.specs.Step.{is_in, is_empty}
 use Rattle.task_core.specs.Task.{GroundParts, start, idle, action_at}
-use Rattle.encode_laws.specs.Rows.{Name, is_done, behind, Fact, at_most, below, named, Literal, yes, no, lit, opposite, Item, number, boolean, row, needs}
-use Rattle.encode_laws.specs.Symbolic.{Symbolic, constant_literal, symbolic_start, signed_literal, literal_rows, added, deleted, added_rows, deleted_rows, changes_of, change_rows, truth_rows, symbolic_after, occurrence, goal_rows, rows_from}
-use Rattle.encode_laws.specs.Numbering.{Key, atom, truth, plain, plain_fact, signed_plain, same_key, with_key, with_plain, with_row, with_item, table_from, table_of, counts_of, atom_in}
+use Rattle.encode_laws.specs.Rows.{Name, is_done, behind, Fact, at_most, below, is_at_most, is_below, named, Literal, yes, no, lit, opposite, Item, number, boolean, row, needs}
+use Rattle.encode_laws.specs.Symbolic.{Symbolic, constant_literal, symbolic_start, signed_literal, literal_rows, added, deleted, added_rows, deleted_rows, changes_of, change_rows, truth_rows, symbolic_after, occurrence, goal_rows, compared_rows, comparison_rows, rows_from}
+use Rattle.encode_laws.specs.Numbering.{Key, atom, truth, constant_plain, at_most_terms, below_terms, plain, plain_fact, signed_plain, same_key, with_key, with_plain, with_row, with_item, table_from, table_of, counts_of, atom_in}
 use Rattle.encode_laws.specs.Encoding.{copies, occurrences, items_of, formula_of}
-use Rattle.plain_formula.specs.Plain.{is_plain, is_plain_task}
+use Rattle.plain_formula.specs.Plain.{is_plain, is_constant, is_plain_goal, is_plain_task}
 
--- ---- what names truth variables alone
+-- ---- what names truth variables alone, or is a constant
 
 abbrev pub IsNamedFact : Fact → Type 0
-IsNamedFact (at_most l) = ⊥
-IsNamedFact (below l) = ⊥
+IsNamedFact (at_most l) = l.terms ≡ []
+IsNamedFact (below l) = l.terms ≡ []
 IsNamedFact (named n) = ⊤
 
 abbrev pub IsNamedLiteral : Literal → Type 0
@@ -58,17 +64,31 @@ opposite_named (lit s f) h = h
 
 -- ---- the table has truth variables alone
 
+kept_or_with : (n : Name) (k : Key) (ks : List Key) → AreTruths (k ∷ ks) → AreTruths (with_key (truth n) ks) → (b : Bool) → AreTruths (cond b (k ∷ ks) (k ∷ with_key (truth n) ks))
+kept_or_with n k ks h later true = h
+kept_or_with n k ks h later false = (h.0, later)
+
 with_key_truths : (n : Name) (keys : List Key) → AreTruths keys → AreTruths (with_key (truth n) keys)
 with_key_truths n [] h = (tt, tt)
-with_key_truths n (k ∷ ks) h = by_same (same_key k (truth n)) (with_key_truths n ks h.1)
-  where
-    by_same : (b : Bool) → AreTruths (with_key (truth n) ks) → AreTruths (cond b (k ∷ ks) (k ∷ with_key (truth n) ks))
-    by_same true rest = h
-    by_same false rest = (h.0, rest)
+with_key_truths n (k ∷ ks) h = kept_or_with n k ks h (with_key_truths n ks h.1) (same_key k (truth n))
+
+constant_truths : (s b : Bool) (keys : List Key) → AreTruths keys → AreTruths (with_plain (signed_plain s (constant_plain b)) keys)
+constant_truths true true keys h = h
+constant_truths true false keys h = h
+constant_truths false true keys h = h
+constant_truths false false keys h = h
+
+at_most_truths : (counts : List Bool) (ts : Terms) (k : Fraction) (s : Bool) (keys : List Key) → ts ≡ [] → AreTruths keys → AreTruths (with_plain (signed_plain s (at_most_terms counts ts k)) keys)
+at_most_truths counts [] k s keys is h = constant_truths s (is_at_most k (whole (pos 0))) keys h
+at_most_truths counts (t ∷ ts) k s keys is h = cc is
+
+below_truths : (counts : List Bool) (ts : Terms) (k : Fraction) (s : Bool) (keys : List Key) → ts ≡ [] → AreTruths keys → AreTruths (with_plain (signed_plain s (below_terms counts ts k)) keys)
+below_truths counts [] k s keys is h = constant_truths s (is_below k (whole (pos 0))) keys h
+below_truths counts (t ∷ ts) k s keys is h = cc is
 
 with_fact_truths : (counts : List Bool) (f : Fact) (s : Bool) (keys : List Key) → IsNamedFact f → AreTruths keys → AreTruths (with_plain (signed_plain s (plain_fact counts f)) keys)
-with_fact_truths counts (at_most l) s keys is h = absurd is
-with_fact_truths counts (below l) s keys is h = absurd is
+with_fact_truths counts (at_most l) s keys is h = at_most_truths counts l.terms l.constant s keys is h
+with_fact_truths counts (below l) s keys is h = below_truths counts l.terms l.constant s keys is h
 with_fact_truths counts (named n) true keys is h = with_key_truths n keys h
 with_fact_truths counts (named n) false keys is h = with_key_truths n keys h
 
@@ -155,15 +175,15 @@ deleted_named on b no o h = tt
 deleted_named on b (lit s f) o h = h
 
 module _ (i : ℕ) (lits : List (ℕ × Bool)) (adds dels : List ℕ) (y : Symbolic) (h : AreNamedTruths y) where
-  abbrev done : Literal
-  done = lit true (named (is_done i))
-
   bare_named : AreNamedItems (occurrence i (bare lits adds dels) y)
   bare_named =
-      let lasts : AreNamedItems (needs [] ∷ []) = (tt, tt) in
-      let changed : AreNamedItems (truth_rows i done y (changes_of (bare lits adds dels)) ++ needs [] ∷ []) = all_append IsNamedItem _ _ (truth_rows_named i done y (changes_of (bare lits adds dels)) tt h) lasts in
-      let front : AreNamed (opposite done ∷ []) = (tt, tt) in
-      (tt, all_append IsNamedItem (literal_rows (opposite done ∷ []) y lits) _ (literal_rows_named (opposite done ∷ []) y lits front h) changed)
+      let on : Literal = lit true (named (is_done i)) in
+      let front : List Literal = lit false (named (is_done i)) ∷ [] in
+      let last : AreNamedItems (needs [] ∷ []) = (tt, tt) in (
+        tt,
+        all_append IsNamedItem (literal_rows front y lits) _ (literal_rows_named front y lits (tt, tt) h)
+            (all_append IsNamedItem (truth_rows i on y (changes_of (bare lits adds dels))) _ (truth_rows_named i on y (changes_of (bare lits adds dels)) tt h) last),
+      )
 
   truth_by : (p : ℕ) (a d : Bool) → IsNamedLiteral (cond a (added (lit true (named (is_done i))) (lit true (named (behind i p))) (y.truth p))
       (cond d (deleted (lit true (named (is_done i))) (lit true (named (behind i p))) (y.truth p)) (y.truth p)))
@@ -174,11 +194,37 @@ module _ (i : ℕ) (lits : List (ℕ × Bool)) (adds dels : List ℕ) (y : Symbo
   bare_truths : AreNamedTruths (symbolic_after i (bare lits adds dels) y)
   bare_truths p = truth_by p (is_in p adds) (is_in p dels)
 
-goal_named : (lits : List (ℕ × Bool)) (adds dels : List ℕ) (y : Symbolic) → AreNamedTruths y → AreNamedItems (goal_rows (bare lits adds dels) y)
-goal_named lits adds dels y h = all_append IsNamedItem _ _ (literal_rows_named [] y lits tt h) tt
+-- ---- a goal compares constants at most
 
-rows_named : (i : ℕ) (places : List GAction) (goal : GAction) (y : Symbolic) → AllByRecursion (λ a. is_plain a ≡ true) places → is_plain goal ≡ true → AreNamedTruths y → AreNamedItems (rows_from i places goal y)
-rows_named i [] goal y each g h = subst (λ (a : GAction). AreNamedItems (goal_rows a y)) (sym (is_bare goal g)) (goal_named goal.lits goal.adds goal.dels y h)
+constant_subst : (by : ℕ → Linear) (l : Linear) → l.terms ≡ [] → (substituted by l).terms ≡ []
+unfolding substituted
+constant_subst by l is = ap (λ (ts : Terms). (subst_from by (fixed l.constant) ts).terms) is
+
+constant_negative : (l : Linear) → l.terms ≡ [] → (negative l).terms ≡ []
+unfolding scale
+constant_negative l is = ap (λ (ts : Terms). (linear_of (times (whole (negsuc 0)) ts) (whole (negsuc 0) *ℚ l.constant)).terms) is
+
+compared_named : (c : Cmp) (l : Linear) → l.terms ≡ [] → AreNamedItems (compared_rows [] c l)
+compared_named Le l is = ((is, tt), tt)
+compared_named Lt l is = ((is, tt), tt)
+compared_named Eq l is = ((is, tt), ((constant_negative l is, tt), tt))
+
+no_terms : (ts : Terms) → is_empty ts ≡ true → ts ≡ []
+no_terms [] is = refl
+no_terms (t ∷ ts) is = cc is
+
+comparisons_named : (y : Symbolic) (cmps : List (Linear × Cmp)) → list_all is_constant cmps ≡ true → AreNamedItems (comparison_rows [] y cmps)
+comparisons_named y [] is = tt
+comparisons_named y (c ∷ cs) is =
+    let parts = and_parts (is_constant c) (list_all is_constant cs) is in
+    all_append IsNamedItem (needs (subst_ops y.value c.0) ∷ compared_rows [] c.1 (substituted y.value c.0)) (comparison_rows [] y cs)
+    (tt, compared_named c.1 (substituted y.value c.0) (constant_subst y.value c.0 (no_terms c.0.terms parts.0))) (comparisons_named y cs parts.1)
+
+goal_named : (goal : GAction) (y : Symbolic) → is_plain_goal goal ≡ true → AreNamedTruths y → AreNamedItems (goal_rows goal y)
+goal_named goal y g h = all_append IsNamedItem (literal_rows [] y goal.lits) (comparison_rows [] y goal.cmps) (literal_rows_named [] y goal.lits tt h) (comparisons_named y goal.cmps g)
+
+rows_named : (i : ℕ) (places : List GAction) (goal : GAction) (y : Symbolic) → AllByRecursion (λ a. is_plain a ≡ true) places → is_plain_goal goal ≡ true → AreNamedTruths y → AreNamedItems (rows_from i places goal y)
+rows_named i [] goal y each g h = goal_named goal y g h
 rows_named i (a ∷ more) goal y each g h = all_append IsNamedItem (occurrence i a y) _
     (subst (λ (x : GAction). AreNamedItems (occurrence i x y)) (sym (is_bare a each.0)) (bare_named i a.lits a.adds a.dels y h))
     (rows_named (suc i) more goal (symbolic_after i a y) each.1 g
@@ -210,7 +256,7 @@ start_named s p = constant_named (s.truth p)
 pub plain_has_no_atom : (task : GroundParts) (pattern : List ℕ) (n b : ℕ) (a : Atom) → is_plain_task task ≡ true
     → slice_get (formula_of task pattern n).atoms b ≡ Some (Some a) → ⊥
 plain_has_no_atom task pattern n b a is has =
-    let plain = both_true (is_plain task.goal) (list_all is_plain task.actions) is in
+    let plain = both_true (is_plain_goal task.goal) (list_all is_plain task.actions) is in
     no_atom (table_of (items_of task pattern n)) b a
     (table_truths (counts_of (items_of task pattern n)) (items_of task pattern n) []
     (rows_named 0 (occurrences task pattern n) task.goal (symbolic_start (start task)) (occurrences_plain task (copies n pattern) plain.1) plain.0 (start_named (start task))) tt) has
