@@ -1,1 +1,3 @@
 pub mod AtLaws
+pub mod EndLaws
+pub mod JudgeLaws
