@@ -1,0 +1,9 @@
+pub mod PutLaws
+pub mod GoingLaws
+pub mod PlaceLaws
+pub mod AdvanceLaws
+pub mod OpeningLaws
+pub mod BlockLaws
+pub mod InstanceLaws
+pub mod PlanLaws
+pub mod SolvingLaws
