@@ -1,4 +1,4 @@
-//! The planner's program: `patty DOMAIN PROBLEM --max-n 0`.
+//! The planner's program: `patty DOMAIN PROBLEM [--max-n N] [--steps B] [--pivots P]`.
 //!
 //! `main` makes the adapters to the system and hands its words to `plan_run`, which does the work.
 #![tactic(auto)]

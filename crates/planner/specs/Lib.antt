@@ -1,3 +1,3 @@
 pub mod Words
-pub mod Goal
 pub mod Planner
+pub mod inside

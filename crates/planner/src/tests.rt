@@ -7,7 +7,7 @@ const DOMAIN: &str = "(define (domain d) (:predicates (g)) (:action a :effect (g
 
 const PROBLEM: &str = "(define (problem p) (:domain d) (:init (g)) (:goal (g)))";
 
-const LINES: &[u8] = b"block 0\nplan 0\nend\n";
+const LINES: &[u8] = b"pattern 1\n1 once (a)\nblock 0\nplan 0\nend\n";
 
 fn file(alloc: Global, name: &str, text: &str) -> Result<NamedBytes, AllocError> {
     Ok(NamedBytes {

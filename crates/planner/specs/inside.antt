@@ -1,0 +1,2 @@
+-- What the clauses of private functions say. No public clause cites these files.
+pub mod Answering
