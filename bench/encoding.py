@@ -183,3 +183,38 @@ def shown(formula):
     booleans = "".join(" " + shown_atom(key) for key in formula.booleans)
     clauses = "".join(" (" + " ".join(("+" if pos else "-") + str(b) for b, pos in clause) + ")" for clause in formula.clauses)
     return f"variables {''.join(formula.variables)}; booleans{booleans}; clauses{clauses}"
+
+
+# ---- points
+
+
+def is_true(truth, clause):
+    return any(truth[b] == pos for b, pos in clause)
+
+
+def holds(formula, key, truth, values):
+    """Whether the reading of an atom, or of its opposite, holds at the values: the first operation that passes 128 bits is raised."""
+    terms, relation, bound = key
+    if truth:
+        total = Fraction(0)
+        for v, c in terms:
+            total = add(total, mul(c, values[v]))
+        return total < bound if relation == "<" else total <= bound
+    if len(terms) == 1 and formula.variables[terms[0][0]] == "c":
+        bound, relation = bound + 1, "<"
+    total = Fraction(0)
+    for v, c in terms:
+        total = add(total, mul(-c, values[v]))
+    return total < -bound if relation == "<=" else total <= -bound
+
+
+def meets(formula, values, truth):
+    if not all(is_true(truth, clause) for clause in formula.clauses):
+        return "not met"
+    try:
+        for key, true in zip(formula.booleans, truth):
+            if key is not None and not holds(formula, key, true, values):
+                return "not met"
+    except Wide as wide:
+        return " ".join(("wide",) + wide.args)
+    return "met"

@@ -12,7 +12,7 @@ import sys
 BENCH = Path(__file__).resolve().parents[1]
 sys.path.append(str(BENCH))
 from fractions128 import MOST, Wide, add, mul, show
-from encoding import encode, shown
+from encoding import encode, meets, shown
 
 DATA = BENCH.parent / "crates/layer_rows/data"
 
@@ -216,7 +216,20 @@ def named(layer, action, part, compute):
 # ---- answers
 
 
-def answer(call, text, copies=None):
+def answer_point(task, places, copies, values, truth):
+    try:
+        values = [fraction(word) for word in values.split()]
+    except Form:
+        return "form"
+    if not re.fullmatch("[01]*", truth):
+        return "form"
+    formula = encode(task, places, int(copies))
+    if len(values) < len(formula.variables) or len(truth) < len(formula.booleans):
+        return "no point"
+    return meets(formula, values, [letter == "1" for letter in truth])
+
+
+def answer(call, text, copies=None, *point):
     try:
         task = Task(text)
         if not task.is_one():
@@ -226,7 +239,7 @@ def answer(call, text, copies=None):
             values = "".join(("none" if value is None else show(value)) + " " for value in task.values)
             rolls = "".join(" roll" if a.rolls() else " once" for a in task.actions)
             return f"atoms {truths}; funcs {values}; goal {len(task.goal.lits)} {len(task.goal.cmps)}; actions{rolls}"
-        if call == "formula" and (not re.fullmatch("[0-9]+", copies) or int(copies) > 1000):
+        if call in ("formula", "meets") and (not re.fullmatch("[0-9]+", copies) or int(copies) > 1000):
             return "form"
         first = layers(task)
         if call == "layers":
@@ -234,6 +247,8 @@ def answer(call, text, copies=None):
         places = sorted((n, a) for a, n in enumerate(first) if n is not None)
         if call == "formula":
             return shown(encode(task, [a for _, a in places], int(copies)))
+        if call == "meets":
+            return answer_point(task, [a for _, a in places], copies, *point)
         return "pattern" + "".join(f" {'roll' if task.actions[a].rolls() else 'once'} {a}" for _, a in places)
     except Form:
         return "form"
@@ -241,7 +256,7 @@ def answer(call, text, copies=None):
         return " ".join(wide.args)
 
 
-for name in ("tasks", "patterns", "layers", "formulas"):
+for name in ("tasks", "patterns", "layers", "formulas", "points"):
     call = ""
     for line in (DATA / f"{name}.rows").read_text().splitlines():
         if line.startswith("frame "):

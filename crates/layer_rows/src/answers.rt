@@ -3,9 +3,11 @@ ghost use Rattle.std.specs.Prelude.{◌≤◌};
 
 use crate::expressions::read_number;
 use crate::formulas::answer_formula;
+use crate::points::{answer_point, read_point};
 use crate::refusal::Refusal;
 use crate::shown::{show_layers, show_pattern, show_range_wide, show_task};
 use crate::tasks::read_task;
+use formula::Point;
 use pattern::pattern_of;
 use relaxed::{LayerFail, Layers, layers_of};
 use row_files::word;
@@ -34,6 +36,7 @@ fn answer_task(
         "pattern" => answer_pattern(alloc, task),
         "formula" => answer_copies(alloc, task, word(texts, 1), false),
         "formula-size" => answer_copies(alloc, task, word(texts, 1), true),
+        "meets" => answer_meets(alloc, task, texts),
         _ => String::from_str(alloc, "no such call"),
     }
 }
@@ -80,6 +83,32 @@ fn answer_copies_of(
             n,
             size_alone,
         ),
+        Err(fail) => show_fail(alloc, &fail),
+    }
+}
+
+fn answer_meets(alloc: Global, task: &GroundTask, texts: &[Vec<u8>]) -> Result<String, AllocError> {
+    let n = match read_number(word(texts, 1)) {
+        Ok(n) if n <= 1000 => n as u32,
+        _ => return String::from_str(alloc, "form"),
+    };
+    match read_point(alloc, word(texts, 2), word(texts, 3)) {
+        Ok(point) => answer_meets_of(alloc, task, n, &point),
+        Err(Refusal::Memory) => Err(AllocError),
+        Err(_) => String::from_str(alloc, "form"),
+    }
+}
+
+fn answer_meets_of(
+    alloc: Global,
+    task: &GroundTask,
+    n: u32,
+    point: &Point,
+) -> Result<String, AllocError>
+    requires { n ≤ 1000 }
+{
+    match layers_of(alloc, task) {
+        Ok(layers) => answer_point(alloc, task, &pattern_of(alloc, task, &layers)?, n, point),
         Err(fail) => show_fail(alloc, &fail),
     }
 }

@@ -1,10 +1,11 @@
 //! Ground tasks as rows of data (`row_files`): for each row, this program prints what the public calls of `task_core`, `relaxed`,
-//! `pattern` and `encode` answer. `tasks` has the form of a task. Begin with `answers`.
+//! `pattern`, `encode` and `formula` answer. `tasks` has the form of a task. Begin with `answers`.
 #![tactic(auto)]
 
 mod answers;
 mod expressions;
 mod formulas;
+mod points;
 mod refusal;
 mod shown;
 mod tasks;
