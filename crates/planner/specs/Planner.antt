@@ -15,7 +15,7 @@ use Rattle.patty_run.specs.Tasks.{IsTask}
 use Rattle.patty_run.specs.Programs.{Program}
 use Rattle.patty_run.specs.Statuses.{SaysRefused, IsTaskGiven, IsRun}
 use Rattle.ground_entry.specs.declared.failure.GroundFail.{GroundFail}
-use Rattle.ground_entry.specs.declared.failure.GroundFail.TheVariants as ground
+use Rattle.ground_entry.specs.declared.failure.GroundFail.TheVariants as refusal
 use Rattle.ground.specs.Course.{ops_within}
 use Rattle.ground_walk.specs.Walk.{kept_instances}
 use Rattle.ground_plans.specs.Plans.{ReachesGoal}
@@ -52,9 +52,9 @@ pub record Allows (limits : Limits) (task : TaskParts) (a : Answer) : Type 0 whe
   pub takes : Takes limits task a.course
 
 abbrev pub refusal_lines : GroundFail → List (List ℕ)
-refusal_lines ground.Many = line (codes "fault task 14") ∷ []
-refusal_lines (ground.CoefWide w) = line (codes "fault task 16 " ++ operation_text w) ∷ []
-refusal_lines ground.Memory = []
+refusal_lines refusal.Many = line (codes "fault task 14") ∷ []
+refusal_lines (refusal.CoefWide w) = line (codes "fault task 16 " ++ operation_text w) ∷ []
+refusal_lines refusal.Memory = []
 
 abbrev pub not_built_lines : List (List ℕ)
 not_built_lines = line (codes "fault problem 23 0") ∷ []
